@@ -1,0 +1,5 @@
+pub mod Sizes
+pub mod CoreSets
+pub mod Pages
+pub mod Flat
+pub mod Faults
