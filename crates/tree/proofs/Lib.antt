@@ -1,0 +1,15 @@
+pub mod Places
+pub mod Blocks
+pub mod Keeping
+pub mod Hanging
+pub mod Starting
+pub mod Props
+pub mod Holding
+pub mod Filling
+pub mod Leaves
+pub mod Needing
+pub mod Middles
+pub mod Tops
+pub mod Telling
+pub mod Showing
+pub mod Searching
