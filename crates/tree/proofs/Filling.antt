@@ -145,3 +145,14 @@ child-entered n s k t ok hs p =
       sound = ok; slot = p; small = live-small t ok k (omega (arith, ok .linked .level n s k hs p)); shown = λ q _. refl; kept = λ a b c _ x. x; levels = λ m _. refl;
       others = λ a b _ _ _. refl; blank = λ u. absurd (let z : _≡_ {A = ℕ} 0 1 = cc in omega arith); size = refl; left = omega (arith, v)
     }
+
+-- the numbers of nodes in use begin at 1
+pub live-some : (t : Tree) → Sound t → (k : ℕ) → 0 < link-at (t .links) k .level → 1 ≤ k
+live-some t ok k h = ⊎-elim
+    (λ (e : k ≡ 0). absurd (omega (arith, ap (λ (i : ℕ). link-at (t .links) i .level) e, ok .linked .none, h)))
+    (λ (ne : k ≡ 0 → ⊥). omega arith)
+    (cases-eq k 0)
+
+-- nodes of different levels are different nodes
+pub not-same : (t : Tree) (a b : ℕ) → (link-at (t .links) a .level ≡ link-at (t .links) b .level → ⊥) → a ≡ b → ⊥
+not-same t a b ne e = ne (ap (λ (i : ℕ). link-at (t .links) i .level) e)

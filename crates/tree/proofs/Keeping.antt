@@ -24,7 +24,7 @@ use Rattle.tree.proofs.Places.{put-same, put-other, put-cases}
 value-child : {x : Slot} (e : Mapping) (k : ℕ) → x ≡ Value e → x ≡ Child k → ⊥
 value-child e k p q = let z : _≡_ {A = ℕ} 0 1 = cc in omega arith
 
-vacant-child : {x : Slot} (k : ℕ) → x ≡ Vacant → x ≡ Child k → ⊥
+pub vacant-child : {x : Slot} (k : ℕ) → x ≡ Vacant → x ≡ Child k → ⊥
 vacant-child k p q = let z : _≡_ {A = ℕ} 0 1 = cc in omega arith
 
 -- a vacant slot of a node that is not free comes to hold a value

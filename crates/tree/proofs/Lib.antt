@@ -13,3 +13,5 @@ pub mod Tops
 pub mod Telling
 pub mod Showing
 pub mod Searching
+pub mod Counting
+pub mod Exact

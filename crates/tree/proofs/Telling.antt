@@ -20,7 +20,8 @@ use Rattle.tree.specs.Nodes.{slot-at, link-at}
 use Rattle.tree.specs.Soundness.{Sound}
 use Rattle.tree.specs.Changes.{Put, Hung}
 use Rattle.tree.specs.Filled.{Others, Filled}
-use Rattle.tree.specs.Holders.{taken, held, holders, amount, Changed, Counted, Counted-but, Told}
+use Rattle.counter.specs.Meaning.{amount}
+use Rattle.tree.specs.Holders.{taken, held, holders, Changed, Counted, Counted-but, Told}
 use Rattle.tree.proofs.Filling.{put-here, put-rest, live-small}
 use Rattle.tree.proofs.Places.{put-same, put-other}
 use Rattle.tree.proofs.Holding.{holders-same, holders-gain, held-none, holders-small}

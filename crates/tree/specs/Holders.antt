@@ -9,6 +9,8 @@ use Rattle.std.specs.declared.option.Option.the-variants.{Some, None}
 use Rattle.tree.specs.declared.slot.Slot.{Slot}
 use Rattle.tree.specs.declared.slot.Slot.the-variants.{Vacant, Child, Value}
 use Rattle.tree.specs.declared.table.Tree.{Tree}
+use mathlib.Core.List.{[], _∷_}
+use Rattle.counter.specs.Meaning.{Meaning, Operation, amount}
 use Rattle.tree.specs.Nodes.{slot-at, link-at}
 
 abbrev pub taken : Slot → ℕ
@@ -24,10 +26,6 @@ held xs n (suc k) = held xs n k + taken (slot-at xs n k)
 -- the root has one holder more
 abbrev pub holders : List Slot → ℕ → ℕ
 holders xs n = cond (eqb n 1) 1 0 + held xs n 64
-
-abbrev pub amount : Option ℕ → ℕ
-amount None = 0
-amount (Some n) = n
 
 pub record Changed (i : ℕ) (v : Option ℕ) (m n : ℕ → Option ℕ) : Type 0 where
   pub here : n i ≡ v
@@ -46,3 +44,24 @@ pub record Told (older : Bool) (m : ℕ) (f g : ℕ → Option ℕ) : Type 0 whe
   pub here : older ≡ true → g m ≡ Some (amount (f m) + 1)
   pub rest : (j : ℕ) → (j ≡ m → ⊥) → g j ≡ f j
   pub same : older ≡ false → g m ≡ f m
+
+-- a node that is free in the tree is free in the counter
+abbrev pub Idle : (ℕ → Option ℕ) → Tree → Type 0
+Idle f t = (n : ℕ) → link-at (t .links) n .level ≡ 0 → f n ≡ None
+
+-- a counter knows exactly the nodes of the tree, each with its holders
+pub record Tallied (m : Meaning) (t : Tree) : Type 0 where
+  pub held : Counted (m .holders) t
+  pub idle : Idle (m .holders) t
+
+-- nothing but the holders of objects differs
+pub record Aside (m n : Meaning) : Type 0 where
+  pub cores : n .cores ≡ m .cores
+  pub epoch : n .epoch ≡ m .epoch
+  pub folded : n .folded ≡ m .folded
+  pub closed : n .closed ≡ m .closed
+
+-- the operations, in this order, lead a counter from s to t
+unfoldable pub Follows : {S : Type 0} → (S → Operation → S → Type 0) → List Operation → S → S → Type 0
+Follows steps [] s t = t ≡ s
+Follows {S} steps (o ∷ os) s t = (u : S) × steps s o u × Follows steps os u t

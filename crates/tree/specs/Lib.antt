@@ -6,3 +6,4 @@ pub mod Search
 pub mod Need
 pub mod Holders
 pub mod Filled
+pub mod Fill

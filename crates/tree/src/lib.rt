@@ -7,3 +7,5 @@ pub mod look;
 pub mod lowest;
 pub mod ends;
 pub mod need;
+pub mod tell;
+pub mod fill;
