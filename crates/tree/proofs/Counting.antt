@@ -8,13 +8,13 @@ use lib.Dec.{eqb}
 use Rattle.std.proofs.shelf.Tests.{eq-eqb, ne-eqb, cond-true, cond-false}
 use Rattle.std.specs.declared.option.Option.{Option}
 use Rattle.std.specs.declared.option.Option.the-variants.{Some, None}
-use Rattle.counter.specs.Meaning.{Meaning, Operation, amount, given, raised, put}
+use Rattle.counter.specs.Meaning.{Meaning, Operation, how-many, given, raised, put-at}
 use Rattle.counter.specs.Meaning.Operation.{Revive}
 use Rattle.std.specs.Options.{isSome}
 use Rattle.tree.specs.Fill.{revivals}
 use Rattle.tree.specs.Holders.{Changed, Told, Aside, Follows}
 
-put-changed : (i : ℕ) (v : Option ℕ) (f : ℕ → Option ℕ) → Changed i v f (put i v f)
+put-changed : (i : ℕ) (v : Option ℕ) (f : ℕ → Option ℕ) → Changed i v f (put-at i v f)
 put-changed i v f = record {
   here = cond-true (eqb i i) v (f i) (eq-eqb i i refl);
   rest = λ j ne. cond-false (eqb j i) v (f j) (ne-eqb j i ne)
@@ -23,9 +23,9 @@ put-changed i v f = record {
 pub given-changed : (o k : ℕ) (m n : Meaning) → n ≡ given o k m → Changed o (Some k) (m .holders) (n .holders)
 given-changed o k m n e = subst (λ (x : Meaning). Changed o (Some k) (m .holders) (x .holders)) (sym e) (put-changed o (Some k) (m .holders))
 
-pub raised-changed : (o : ℕ) (m n : Meaning) → n ≡ raised o m → Changed o (Some (amount (m .holders o) + 1)) (m .holders) (n .holders)
+pub raised-changed : (o : ℕ) (m n : Meaning) → n ≡ raised o m → Changed o (Some (how-many (m .holders o) + 1)) (m .holders) (n .holders)
 raised-changed o m n e =
-    subst (λ (x : Meaning). Changed o (Some (amount (m .holders o) + 1)) (m .holders) (x .holders)) (sym e) (put-changed o (Some (amount (m .holders o) + 1)) (m .holders))
+    subst (λ (x : Meaning). Changed o (Some (how-many (m .holders o) + 1)) (m .holders) (x .holders)) (sym e) (put-changed o (Some (how-many (m .holders o) + 1)) (m .holders))
 
 pub given-aside : (o k : ℕ) (m n : Meaning) → n ≡ given o k m → Aside m n
 given-aside o k m n e = record {
@@ -46,9 +46,9 @@ pub aside-then : (l m n : Meaning) → Aside l m → Aside m n → Aside l n
 aside-then l m n a b = record { cores = b .cores ∙ a .cores; epoch = b .epoch ∙ a .epoch; folded = b .folded ∙ a .folded; closed = b .closed ∙ a .closed }
 
 -- a node gains a slot more
-pub changed-more : (i k : ℕ) (f g h : ℕ → Option ℕ) → Changed i (Some (amount (f i) + k)) f g → Changed i (Some (amount (g i) + 1)) g h → Changed i (Some (amount (f i) + (k + 1))) f h
+pub changed-more : (i k : ℕ) (f g h : ℕ → Option ℕ) → Changed i (Some (how-many (f i) + k)) f g → Changed i (Some (how-many (g i) + 1)) g h → Changed i (Some (how-many (f i) + (k + 1))) f h
 changed-more i k f g h a b =
-    let e : amount (g i) + 1 ≡ amount (f i) + (k + 1) = omega (arith, ap amount (a .here)) in
+    let e : how-many (g i) + 1 ≡ how-many (f i) + (k + 1) = omega (arith, ap how-many (a .here)) in
     record { here = b .here ∙ ap Some e; rest = λ j ne. b .rest j ne ∙ a .rest j ne }
 
 module _ {S : Type 0} (steps : S → Operation → S → Type 0) where
@@ -65,13 +65,13 @@ module _ {S : Type 0} (steps : S → Operation → S → Type 0) where
   follows-then [] ps s u t a b = subst (λ (x : S). Follows steps ps x t) a b
   follows-then (o ∷ os) ps s u t a b = (a .0, a .1, follows-then os ps (a .0) u t (a .2) b)
 
-pub some-amount : (x : Option ℕ) → isSome x ≡ true → x ≡ Some (amount x)
+pub some-amount : (x : Option ℕ) → isSome x ≡ true → x ≡ Some (how-many x)
 some-amount None e = absurd (let z : _≡_ {A = ℕ} 0 1 = cc in omega arith)
 some-amount (Some n) e = refl
 
-pub changed-none : (i : ℕ) (f : ℕ → Option ℕ) → isSome (f i) ≡ true → Changed i (Some (amount (f i) + 0)) f f
+pub changed-none : (i : ℕ) (f : ℕ → Option ℕ) → isSome (f i) ≡ true → Changed i (Some (how-many (f i) + 0)) f f
 changed-none i f e =
-    let z : amount (f i) ≡ amount (f i) + 0 = omega arith in
+    let z : how-many (f i) ≡ how-many (f i) + 0 = omega arith in
     record { here = some-amount (f i) e ∙ ap Some z; rest = λ j _. refl }
 
 -- one revival more

@@ -20,7 +20,7 @@ use Rattle.tree.specs.Nodes.{slot-at, link-at}
 use Rattle.tree.specs.Soundness.{Sound}
 use Rattle.tree.specs.Changes.{Put, Hung}
 use Rattle.tree.specs.Filled.{Others, Filled}
-use Rattle.counter.specs.Meaning.{amount}
+use Rattle.counter.specs.Meaning.{how-many}
 use Rattle.tree.specs.Holders.{taken, held, holders, Changed, Counted, Counted-but, Told}
 use Rattle.tree.proofs.Filling.{put-here, put-rest, live-small}
 use Rattle.tree.proofs.Places.{put-same, put-other}
@@ -31,21 +31,21 @@ known f t h n live = ap isSome (h n live)
 
 -- one older node gains k slots
 pub counted-gain : (f g : ℕ → Option ℕ) (old new : Tree) (n k : ℕ) → Counted f old → 0 < link-at (old .links) n .level →
-    Changed n (Some (amount (f n) + k)) f g → holders (new .slots) n ≡ holders (old .slots) n + k → new .links ≡ old .links →
+    Changed n (Some (how-many (f n) + k)) f g → holders (new .slots) n ≡ holders (old .slots) n + k → new .links ≡ old .links →
     ((a : ℕ) → 0 < link-at (old .links) a .level → (a ≡ n → ⊥) → holders (new .slots) a ≡ holders (old .slots) a) → Counted g new
 counted-gain f g old new n k h live ch gain links same a live′ =
     let la : 0 < link-at (old .links) a .level = subst (λ (u : List Link). 0 < link-at u a .level) links live′ in
     ⊎-elim
     (λ (e : a ≡ n).
-      let x : amount (f n) ≡ holders (old .slots) n = ap amount (h n live) in
-      let y : amount (f n) + k ≡ holders (new .slots) n = omega (arith, x, gain) in
+      let x : how-many (f n) ≡ holders (old .slots) n = ap how-many (h n live) in
+      let y : how-many (f n) + k ≡ holders (new .slots) n = omega (arith, x, gain) in
       ap g e ∙ ch .here ∙ ap Some y ∙ ap (λ (i : ℕ). Some (holders (new .slots) i)) (sym e))
     (λ (ne : a ≡ n → ⊥). ch .rest a ne ∙ h a la ∙ ap Some (sym (same a la ne)))
     (cases-eq a n)
 
 -- a value is put into a vacant slot
 pub counted-put : (f g : ℕ → Option ℕ) (old new : Tree) (n s : ℕ) (e : Mapping) → Sound old → Counted f old → 0 < link-at (old .links) n .level → s < 64 →
-    slot-at (old .slots) n s ≡ Vacant → Put n s e old new → Changed n (Some (amount (f n) + 1)) f g → Counted g new
+    slot-at (old .slots) n s ≡ Vacant → Put n s e old new → Changed n (Some (how-many (f n) + 1)) f g → Counted g new
 counted-put f g old new n s e ok h live hs was w ch =
     let rest = put-rest old new ok n s e w hs live was in
     counted-gain f g old new n 1 h live ch
@@ -55,14 +55,14 @@ counted-put f g old new n s e ok h live hs was w ch =
 
 -- an older leaf gains k slots
 pub counted-leaf : (f g : ℕ → Option ℕ) (old new : Tree) (n k : ℕ) → Counted f old → 0 < link-at (old .links) n .level →
-    Changed n (Some (amount (f n) + k)) f g → holders (new .slots) n ≡ holders (old .slots) n + k → new .links ≡ old .links →
+    Changed n (Some (how-many (f n) + k)) f g → holders (new .slots) n ≡ holders (old .slots) n + k → new .links ≡ old .links →
     Others (λ a t. a ≡ n → ⊥) old new → Counted g new
 counted-leaf f g old new n k h live ch gain links others =
     counted-gain f g old new n k h live ch gain links (λ a la ne. holders-same (old .slots) (new .slots) a (λ t ht. others a t ht la ne))
 
 -- an older node gains a child, which is given its k slots
 pub counted-new : (f g i : ℕ → Option ℕ) (old mid new : Tree) (m s n k : ℕ) → Sound old → Counted f old → m < 65 → s < 64 → 0 < link-at (old .links) m .level →
-    slot-at (old .slots) m s ≡ Vacant → Hung m s n old mid → Changed m (Some (amount (f m) + 1)) f g → Changed n (Some k) g i →
+    slot-at (old .slots) m s ≡ Vacant → Hung m s n old mid → Changed m (Some (how-many (f m) + 1)) f g → Changed n (Some k) g i →
     holders (new .slots) n ≡ holders (mid .slots) n + k → new .links ≡ mid .links → Others (λ a t. a ≡ n → ⊥) mid new → Counted i new
 counted-new f g i old mid new m s n k ok h hm hs live was w up gave gain links others a live′ =
     let la : 0 < link-at (mid .links) a .level = subst (λ (u : List Link). 0 < link-at u a .level) links live′ in
@@ -82,10 +82,10 @@ counted-new f g i old mid new m s n k ok h hm hs live was w up gave gain links o
       let kept : holders (new .slots) a ≡ holders (mid .slots) a = holders-same (mid .slots) (new .slots) a (λ t ht. others a t ht la ne) in
       ⊎-elim
       (λ (e : a ≡ m).
-        let x : amount (f m) ≡ holders (old .slots) m = ap amount (h m live) in
+        let x : how-many (f m) ≡ holders (old .slots) m = ap how-many (h m live) in
         let y : holders (mid .slots) m ≡ holders (old .slots) m + 1 =
           holders-gain (old .slots) (mid .slots) m s hs (ap taken was) (ap taken here) (λ t ht no. rest m t ht (λ _ z. no z)) in
-        let z : amount (f m) + 1 ≡ holders (mid .slots) m = omega (arith, x, y) in
+        let z : how-many (f m) + 1 ≡ holders (mid .slots) m = omega (arith, x, y) in
         gave .rest a ne ∙ ap g e ∙ up .here ∙ ap Some z ∙ ap (λ (j : ℕ). Some (holders (mid .slots) j)) (sym e) ∙ ap Some (sym kept))
       (λ (no : a ≡ m → ⊥).
         let y : holders (mid .slots) a ≡ holders (old .slots) a = holders-same (old .slots) (mid .slots) a (λ t ht. rest a t ht (λ z _. no z)) in
@@ -105,9 +105,9 @@ module _ (older : Bool) (m : ℕ) where
       let rest = put-rest old new ok m s e w hs live was in
       ⊎-elim
       (λ (q : a ≡ m).
-        let x : amount (f m) ≡ holders (old .slots) m = ap amount (h m live (λ z _. excl z q)) in
+        let x : how-many (f m) ≡ holders (old .slots) m = ap how-many (h m live (λ z _. excl z q)) in
         let gain = holders-gain (old .slots) (new .slots) m s hs (ap taken was) (ap taken (put-here old new ok m s e w hs live was)) (λ t ht ne. rest m t ht (λ _ z. ne z)) in
-        let y : amount (f m) + 1 ≡ holders (new .slots) m = omega (arith, x, gain) in
+        let y : how-many (f m) + 1 ≡ holders (new .slots) m = omega (arith, x, gain) in
         ap g q ∙ ch .here (is-true older (λ z. excl z q)) ∙ ap Some y ∙ ap (λ (i : ℕ). Some (holders (new .slots) i)) (sym q))
       (λ (ne : a ≡ m → ⊥). ch .rest a ne ∙ h a la excl ∙ ap Some (sym (holders-same (old .slots) (new .slots) a (λ t ht. rest a t ht (λ z _. ne z)))))
       (cases-eq a m)
@@ -118,14 +118,14 @@ module _ (older : Bool) (m : ℕ) where
       holders-gain (old .slots) (new .slots) m s hs (ap taken was) (ap taken (put-here old new ok m s e w hs live was)) (λ t ht ne. put-rest old new ok m s e w hs live was m t ht (λ _ z. ne z))
 
   pub but-leaf : (f g : ℕ → Option ℕ) (old new : Tree) (n k : ℕ) → Counted-but older m f old → 0 < link-at (old .links) n .level → (n ≡ m → ⊥) →
-      Changed n (Some (amount (f n) + k)) f g → holders (new .slots) n ≡ holders (old .slots) n + k → new .links ≡ old .links →
+      Changed n (Some (how-many (f n) + k)) f g → holders (new .slots) n ≡ holders (old .slots) n + k → new .links ≡ old .links →
       Others (λ a t. a ≡ n → ⊥) old new → Counted-but older m g new
   but-leaf f g old new n k h live nm ch gain links others a live′ excl =
       let la : 0 < link-at (old .links) a .level = subst (λ (u : List Link). 0 < link-at u a .level) links live′ in
       ⊎-elim
       (λ (e : a ≡ n).
-        let x : amount (f n) ≡ holders (old .slots) n = ap amount (h n live (λ _. nm)) in
-        let y : amount (f n) + k ≡ holders (new .slots) n = omega (arith, x, gain) in
+        let x : how-many (f n) ≡ holders (old .slots) n = ap how-many (h n live (λ _. nm)) in
+        let y : how-many (f n) + k ≡ holders (new .slots) n = omega (arith, x, gain) in
         ap g e ∙ ch .here ∙ ap Some y ∙ ap (λ (i : ℕ). Some (holders (new .slots) i)) (sym e))
       (λ (ne : a ≡ n → ⊥). ch .rest a ne ∙ h a la excl ∙ ap Some (sym (holders-same (old .slots) (new .slots) a (λ t ht. others a t ht la ne))))
       (cases-eq a n)
@@ -158,8 +158,8 @@ module _ (older : Bool) (m : ℕ) where
         let lo : 0 < link-at (old .links) a .level = subst (λ (u : Link). 0 < u .level) (w .levels a ne) la in
         ⊎-elim
         (λ (e : a ≡ m).
-          let x : amount (f m) ≡ holders (old .slots) m = ap amount (h m live (λ z _. excl z e)) in
-          let z : amount (f m) + 1 ≡ holders (mid .slots) m = omega (arith, x, hung-gains) in
+          let x : how-many (f m) ≡ holders (old .slots) m = ap how-many (h m live (λ z _. excl z e)) in
+          let z : how-many (f m) + 1 ≡ holders (mid .slots) m = omega (arith, x, hung-gains) in
           ap g e ∙ up .here (is-true older (λ z. excl z e)) ∙ ap Some z ∙ ap (λ (j : ℕ). Some (holders (mid .slots) j)) (sym e))
         (λ (no : a ≡ m → ⊥).
           up .rest a no ∙ h a lo excl ∙ ap Some (sym (holders-same (old .slots) (mid .slots) a (λ t ht. h-rest a t ht (λ z _. no z)))))
@@ -204,10 +204,10 @@ pub but-known : (older : Bool) (m : ℕ) (f : ℕ → Option ℕ) (t : Tree) →
 but-known older m f t h live o = ap isSome (h m live (λ z _. let q : _≡_ {A = Bool} true false = sym o ∙ z in absurd (let z : _≡_ {A = ℕ} 0 1 = cc in omega arith)))
 
 -- an older node that gains a slot has room in the count
-pub but-few : (older : Bool) (m : ℕ) (f : ℕ → Option ℕ) (t : Tree) (ys : List Slot) → Counted-but older m f t → 0 < link-at (t .links) m .level → holders ys m ≡ holders (t .slots) m + 1 → older ≡ true → amount (f m) < 65
+pub but-few : (older : Bool) (m : ℕ) (f : ℕ → Option ℕ) (t : Tree) (ys : List Slot) → Counted-but older m f t → 0 < link-at (t .links) m .level → holders ys m ≡ holders (t .slots) m + 1 → older ≡ true → how-many (f m) < 65
 but-few older m f t ys h live gain o =
-    let x = ap amount (h m live (λ z _. let q : _≡_ {A = Bool} true false = sym o ∙ z in absurd (let z : _≡_ {A = ℕ} 0 1 = cc in omega arith))) in
+    let x = ap how-many (h m live (λ z _. let q : _≡_ {A = Bool} true false = sym o ∙ z in absurd (let z : _≡_ {A = ℕ} 0 1 = cc in omega arith))) in
     omega (arith, x, gain, holders-small ys m)
 
-pub few : (f : ℕ → Option ℕ) (t : Tree) (ys : List Slot) → Counted f t → (n : ℕ) → 0 < link-at (t .links) n .level → holders ys n ≡ holders (t .slots) n + 1 → amount (f n) < 65
-few f t ys h n live gain = let x = ap amount (h n live) in omega (arith, x, gain, holders-small ys n)
+pub few : (f : ℕ → Option ℕ) (t : Tree) (ys : List Slot) → Counted f t → (n : ℕ) → 0 < link-at (t .links) n .level → holders ys n ≡ holders (t .slots) n + 1 → how-many (f n) < 65
+few f t ys h n live gain = let x = ap how-many (h n live) in omega (arith, x, gain, holders-small ys n)

@@ -10,7 +10,7 @@ use Rattle.tree.specs.declared.slot.Slot.{Slot}
 use Rattle.tree.specs.declared.slot.Slot.the-variants.{Vacant, Child, Value}
 use Rattle.tree.specs.declared.table.Tree.{Tree}
 use mathlib.Core.List.{[], _∷_}
-use Rattle.counter.specs.Meaning.{Meaning, Operation, amount}
+use Rattle.counter.specs.Meaning.{Meaning, Operation, how-many}
 use Rattle.tree.specs.Nodes.{slot-at, link-at}
 
 abbrev pub taken : Slot → ℕ
@@ -41,7 +41,7 @@ Counted-but older m f t = (n : ℕ) → 0 < link-at (t .links) n .level → (old
 
 -- an older node has gained a slot; of a new one nothing is told
 pub record Told (older : Bool) (m : ℕ) (f g : ℕ → Option ℕ) : Type 0 where
-  pub here : older ≡ true → g m ≡ Some (amount (f m) + 1)
+  pub here : older ≡ true → g m ≡ Some (how-many (f m) + 1)
   pub rest : (j : ℕ) → (j ≡ m → ⊥) → g j ≡ f j
   pub same : older ≡ false → g m ≡ f m
 

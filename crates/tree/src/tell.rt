@@ -3,7 +3,7 @@ ghost use mathlib.Core.Bool.{true, false};
 ghost use Prim.Native.Nat.{ℕ, _+_, _<_, _≤_};
 ghost use Rattle.std.specs.Options.{isSome};
 ghost use Rattle.std.specs.declared.option.Option.the-variants.{Some, None};
-ghost use Rattle.counter.specs.Meaning.{amount};
+ghost use Rattle.counter.specs.Meaning.{how-many};
 ghost use Rattle.tree.specs.Holders.{Changed, Told, Aside, Follows};
 ghost use Rattle.tree.specs.Fill.{revivals, gain};
 use super::slot::NodeId;
@@ -16,8 +16,8 @@ pub(super) fn revive_all<C: Counter<Nodes>>(counter: &mut C, core: Core, node: N
     requires core { ⌜ core < C·Counter .meaning (now counter) .cores ⌝ }
     requires node { ⌜ 1 ≤ node ⌝ ∗ ⌜ node ≤ 64 ⌝ }
     requires known { ⌜ isSome (C·Counter .meaning (now counter) .holders node) ≡ true ⌝ }
-    requires few { ⌜ amount (C·Counter .meaning (now counter) .holders node) + times ≤ 65 ⌝ }
-    ensures changed { λ _. ⌜ Changed node (Some (amount (C·Counter .meaning (now (counter .entry)) .holders node) + times)) (C·Counter .meaning (now (counter .entry)) .holders) (C·Counter .meaning (now (counter .exit)) .holders) ⌝ }
+    requires few { ⌜ how-many (C·Counter .meaning (now counter) .holders node) + times ≤ 65 ⌝ }
+    ensures changed { λ _. ⌜ Changed node (Some (how-many (C·Counter .meaning (now (counter .entry)) .holders node) + times)) (C·Counter .meaning (now (counter .entry)) .holders) (C·Counter .meaning (now (counter .exit)) .holders) ⌝ }
     ensures aside { λ _. ⌜ Aside (C·Counter .meaning (now (counter .entry))) (C·Counter .meaning (now (counter .exit))) ⌝ }
     ensures told { λ _. ⌜ Follows (C·Counter .steps) (revivals core node times) (now (counter .entry)) (now (counter .exit)) ⌝ }
 {
@@ -31,7 +31,7 @@ pub(super) fn tell<C: Counter<Nodes>>(counter: &mut C, older: bool, core: Core, 
     requires core { ⌜ core < C·Counter .meaning (now counter) .cores ⌝ }
     requires node { ⌜ 1 ≤ node ⌝ ∗ ⌜ node ≤ 64 ⌝ }
     requires known { ⌜ (older ≡ true → isSome (C·Counter .meaning (now counter) .holders node) ≡ true) ⌝ }
-    requires few { ⌜ (older ≡ true → amount (C·Counter .meaning (now counter) .holders node) < 65) ⌝ }
+    requires few { ⌜ (older ≡ true → how-many (C·Counter .meaning (now counter) .holders node) < 65) ⌝ }
     ensures changed { λ _. ⌜ Told older node (C·Counter .meaning (now (counter .entry)) .holders) (C·Counter .meaning (now (counter .exit)) .holders) ⌝ }
     ensures aside { λ _. ⌜ Aside (C·Counter .meaning (now (counter .entry))) (C·Counter .meaning (now (counter .exit))) ⌝ }
     ensures told { λ _. ⌜ Follows (C·Counter .steps) (gain older core node) (now (counter .entry)) (now (counter .exit)) ⌝ }

@@ -4,7 +4,7 @@ use mathlib.Core.List.{List, [], _∷_}
 use Prim.Native.Nat.{ℕ, _+_, _-_, _/_, _%_, _<_}
 use native.Mathlib.Omega.{arith}
 use Rattle.std.specs.Options.{isSome}
-use Rattle.counter.specs.Meaning.{Operation, amount}
+use Rattle.counter.specs.Meaning.{Operation, how-many}
 use Rattle.counter.specs.Meaning.Operation.{Give}
 use Rattle.tree.proofs.Keeping.{vacant-child}
 use Rattle.tree.specs.declared.slot.Link.{Link}
@@ -90,7 +90,7 @@ give-requires g c κs =
     let w = c .grow-n .ensures .hung in
     let up : 0 < link-at (c .grow-n .last .self .links) (c .grow-n .result) .level = omega (arith, w .level) in
     record {
-      object = (live-some (c .grow-n .last .self) (w .sound) (c .grow-n .result) up, omega (arith, w .small));
+      exists = (live-some (c .grow-n .last .self) (w .sound) (c .grow-n .result) up, omega (arith, w .small));
       free = c .tell-in-Vacant .ensures .changed .rest (c .grow-n .result) (not-same (c .args .self .now) (c .grow-n .result) (c .args .m) (λ e. omega (arith, e, w .idle, l)))
         ∙ c .pre .idle (c .grow-n .result) (w .idle);
       some = (omega (arith, c .pre .some), omega (arith, c .pre .some, c .pre .block));
@@ -138,7 +138,7 @@ revive-all-requires g c κs =
       core = c .pre .core;
       node = (live-some (c .args .self .now) (c .pre .sound) (c .in-Child .n) live, omega (arith, live-small _ (c .pre .sound) (c .in-Child .n) live));
       known = ap isSome held;
-      few = omega (arith, ap amount held, c .fill-leaf-in-Child .ensures .gained, holders-small (c .fill-leaf-in-Child .last .self .slots) (c .in-Child .n));
+      few = omega (arith, ap how-many held, c .fill-leaf-in-Child .ensures .gained, holders-small (c .fill-leaf-in-Child .last .self .slots) (c .in-Child .n));
     }
 
 pub returns-in-Vacant : need.returns-in-Vacant
