@@ -4,6 +4,7 @@ pub mod Soundness
 pub mod Changes
 pub mod Search
 pub mod Need
+pub mod Room
 pub mod Holders
 pub mod Filled
 pub mod Fill

@@ -4,11 +4,13 @@ ghost use Rattle.tree.specs.declared.slot.Slot.the-variants.{Vacant, Child, Va
 ghost use Rattle.tree.specs.Nodes.{slot-at, link-at};
 ghost use Rattle.tree.specs.Soundness.{Sound, left};
 ghost use Rattle.tree.specs.Need.{part, need-mid, root-part, need};
+ghost use Rattle.tree.specs.Room.{room-for};
 use super::ends::block_end;
 use super::ends::top_end;
 use super::slot::NodeId;
 use super::slot::Slot;
 use super::table::Tree;
+use model::fault::TreeFault;
 use model::page::Page;
 
 impl Tree {
@@ -85,5 +87,18 @@ impl Tree {
         }
         let b = (last - 1) / 4096;
         head + self.need_of_top(b * 4096, last)
+    }
+
+    /// Refuses a fill that needs more nodes than are free.
+    pub fn check_room(&self, first: Page, last: Page) -> Result<(), TreeFault>
+        requires sound { ⌜ Sound (now self) ⌝ }
+        requires some { ⌜ first < last ⌝ }
+        requires small { ⌜ last ≤ 262144 ⌝ }
+        ensures { λ r. ⌜ r ≡ room-for first last (now (self .entry)) ⌝ }
+    {
+        if self.free_nodes() < self.need(first, last) {
+            return Err(TreeFault::TooFewNodes { place: Some(first) });
+        }
+        Ok(())
     }
 }
