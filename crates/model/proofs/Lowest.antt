@@ -39,3 +39,18 @@ lowest-is f zero first last r e h = none-of f first last r (omega arith) h
 lowest-is f (suc count) first last r e h =
     split f first last r (lowest f (first + 1) count) (omega arith)
     (λ isnt. lowest-is f count (first + 1) last r (omega arith) (later f first last r isnt h)) h (f first) refl
+
+-- where nothing is found, nothing in the range fits
+step-none : (b : Bool) (first : ℕ) (rest : Option ℕ) → cond b (Some first) rest ≡ None → (b ≡ false) × (rest ≡ None)
+step-none true first rest e = absurd (let z : _≡_ {A = ℕ} 0 1 = cc in omega arith)
+step-none false first rest e = (refl, e)
+
+pub lowest-none : (f : ℕ → Bool) (count first : ℕ) → lowest f first count ≡ None → (q : ℕ) → first ≤ q → q < first + count → f q ≡ false
+unfolding lowest
+lowest-none f zero first e q lo hi = absurd (omega arith)
+lowest-none f (suc count) first e q lo hi =
+    let s = step-none (f first) first (lowest f (first + 1) count) e in
+    ⊎-elim
+    (λ (same : q ≡ first). ap f same ∙ s .0)
+    (λ (ne : q ≡ first → ⊥). lowest-none f count (first + 1) (s .1) q (omega arith) (omega arith))
+    (cases-eq q first)

@@ -58,6 +58,9 @@ slot-inj (Value d) Vacant p = cc
 slot-inj (Value d) (Child k) p = cc
 slot-inj (Value d) (Value e) p = let q : mapping-code d ≡ mapping-code e = cc in ap Value (mapping-inj d e q)
 
+pub option-set : IsSet (Option ℕ)
+option-set = coded-set (codedVia (coded⊎ codedUnit codedℕ) option-code option-inj)
+
 pub slot-set : IsSet Slot
 slot-set = coded-set (codedVia (coded⊎ codedUnit (coded⊎ codedℕ (coded× codedℕ (coded× codedℕ (coded× (coded⊎ codedUnit codedℕ) (coded⊎ codedUnit codedℕ)))))) slot-code slot-inj)
 

@@ -57,3 +57,21 @@ module _ (t : Tree) (ok : Sound t) (q m : ℕ) where
 
   pub leaf-small : (n : ℕ) → q < 262144 → slot-at (t .slots) 1 (q / 4096) ≡ Child m → slot-at (t .slots) m (q / 64 % 64) ≡ Child n → n < 65
   leaf-small n h a b = live-small t ok n (omega (arith, level-3 (t .slots) (t .slots) (t .links) (ok .linked) q m n h a b))
+
+-- a page's slot is never one with a child: leaves have none
+module _ (xs : List Slot) (links : List Link) (ok : Linked xs links) (q : ℕ) (small : q < 262144) where
+  leaf-plain : (a b k : ℕ) → slot-at xs 1 (q / 4096) ≡ Child a → slot-at xs a (q / 64 % 64) ≡ Child b → slot-at xs b (q % 64) ≡ Child k → ⊥
+  leaf-plain a b k p r e = omega (arith, ok .level b (q % 64) k (omega arith) e, level-3 xs xs links ok q a b small p r, ok .deep k)
+
+  third : (a : ℕ) → slot-at xs 1 (q / 4096) ≡ Child a → (v : Slot) → slot-at xs a (q / 64 % 64) ≡ v → (k : ℕ) → down xs v (q % 64) ≡ Child k → ⊥
+  third a p Vacant r k e = let z : _≡_ {A = ℕ} 0 1 = cc in omega arith
+  third a p (Value v) r k e = let z : _≡_ {A = ℕ} 0 1 = cc in omega arith
+  third a p (Child b) r k e = leaf-plain a b k p r e
+
+  second : (u : Slot) → slot-at xs 1 (q / 4096) ≡ u → (k : ℕ) → down xs (down xs u (q / 64 % 64)) (q % 64) ≡ Child k → ⊥
+  second Vacant p k e = let z : _≡_ {A = ℕ} 0 1 = cc in omega arith
+  second (Value v) p k e = let z : _≡_ {A = ℕ} 0 1 = cc in omega arith
+  second (Child a) p k e = third a p (slot-at xs a (q / 64 % 64)) refl k e
+
+  pub shown-plain : (k : ℕ) → slot-of xs q ≡ Child k → ⊥
+  shown-plain = second (slot-at xs 1 (q / 4096)) refl

@@ -16,6 +16,8 @@ use Rattle.tree.specs.declared.pool.Pool.{Pool}
 use Rattle.tree.specs.Pools.{full, next-object, drawn}
 use Rattle.tree.specs.Soundness.{Linked, Pooled, Sound}
 use Rattle.tree.specs.Changes.{rooted, planted}
+use Rattle.tree.specs.Holders.{holders}
+use Rattle.tree.proofs.Holding.{held-none}
 
 same-everywhere : {A : Type 0} (n i : ℕ) (x : A) → getD (replicate n x) i x ≡ x
 same-everywhere zero i x = refl
@@ -75,3 +77,15 @@ planted-sound nodes h1 h2 = record {
 
 pub planted-is : (nodes k : ℕ) (p : Pool 64) → k ≡ next-object (full 64 nodes) → p ≡ drawn (full 64 nodes) → rooted k p ≡ planted nodes
 planted-is nodes k p a b = ap (λ (x : ℕ). rooted x p) a ∙ ap (λ (x : Pool 64). rooted (next-object (full 64 nodes)) x) b
+
+-- a new tree has one node, the root, which nobody but the tree holds
+pub planted-level : (nodes n : ℕ) → (n ≡ 1 → ⊥) → link-at (planted nodes .links) n .level ≡ 0
+planted-level nodes n ne = ap (λ (u : Link). u .level) (one-root 4160 65 (record { level = 1; parent = 0; place = 0 }) n ne)
+
+pub planted-holders : (nodes : ℕ) → holders (planted nodes .slots) 1 ≡ 1
+planted-holders nodes =
+    let none = held-none (replicate 4160 Vacant) 1 64 (λ t _. vacant 4160 65 (record { level = 1; parent = 0; place = 0 }) 1 t) in
+    omega (arith, none)
+
+pub planted-slot : (nodes q : ℕ) → slot-of (planted nodes .slots) q ≡ Vacant
+planted-slot nodes q = new-blank 4160 q

@@ -1,0 +1,5 @@
+pub mod States
+pub mod Linking
+pub mod Checks
+pub mod Calls
+pub mod Laws

@@ -1,0 +1,6 @@
+// One address space: the calls that cores make, over any counter of nodes, and the memory that is handed over.
+pub mod space;
+pub mod check;
+pub mod set_up;
+pub mod look;
+pub mod map;
