@@ -5,3 +5,4 @@ pub mod Records
 pub mod RecordLaws
 pub mod Replies
 pub mod ReplyLaws
+pub mod Playing

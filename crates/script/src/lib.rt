@@ -4,6 +4,7 @@ pub mod fields;
 pub mod record;
 pub mod record_laws;
 pub mod answer;
+pub mod player;
 pub mod answer_laws;
 
 #[cfg(test)]

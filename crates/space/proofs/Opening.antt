@@ -25,7 +25,8 @@ ready-prop a b = λ i. record {
   few = le-prop (a .few) (b .few) i;
   small = le-prop (a .small) (b .small) i;
   past = le-prop (a .past) (b .past) i;
-  fit = le-prop (a .fit) (b .fit) i
+  fit = le-prop (a .fit) (b .fit) i;
+  less = le-prop (a .less) (b .less) i
 }
 
 agrees-prop : {st : State} {m : Meaning} → IsProp (Agrees st m)

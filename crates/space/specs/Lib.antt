@@ -3,3 +3,5 @@ pub mod Linking
 pub mod Checks
 pub mod Calls
 pub mod Laws
+pub mod Instance
+pub mod Memories

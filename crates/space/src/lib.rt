@@ -4,3 +4,5 @@ pub mod check;
 pub mod set_up;
 pub mod look;
 pub mod map;
+pub mod memory;
+pub mod calls;

@@ -28,9 +28,10 @@ drawn p =
 abbrev pub unused : {n : ℕ} → Pool n → ℕ
 unused p = p .count + (p .size + 1 - p .next)
 
--- the numbers of a pool are in its bounds
+-- the numbers of a pool are in its bounds, and only objects that were new once have come back
 pub record Ready (n : ℕ) (p : Pool n) : Type 0 where
   pub few : p .size ≤ n
   pub small : n < 65535
   pub past : p .next ≤ p .size + 1
   pub fit : p .count ≤ n
+  pub less : p .count < p .next
