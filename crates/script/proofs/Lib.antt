@@ -1,3 +1,4 @@
 pub mod Reading
 pub mod Trips
 pub mod OneRecord
+pub mod Playings
