@@ -44,8 +44,8 @@ fn outcome_of(memory: &mut Memory, bytes: &[u8]) -> Result<u32, Fault>
     }
 }
 
-/// Answers one record. The reply repeats its kind and core bytes.
-pub fn answer_record(memory: &mut Memory, bytes: &[u8]) -> Reply
+// Answers one record. The reply repeats its kind and core bytes.
+fn answer_record(memory: &mut Memory, bytes: &[u8]) -> Reply
     requires { ⌜ length (now bytes) ≡ 16 ⌝ }
     ensures reply { λ r. ⌜ r ≡ reply-to (now (bytes .entry)) (memory-state (now (memory .entry))) ⌝ }
     ensures state { λ _. ⌜ memory-state (now (memory .exit)) ≡ record-after (now (bytes .entry)) (memory-state (now (memory .entry))) ⌝ }

@@ -4,4 +4,5 @@ pub mod Checks
 pub mod Calls
 pub mod Laws
 pub mod Instance
+pub mod FirstMaps
 pub mod Memories

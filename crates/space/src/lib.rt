@@ -6,3 +6,4 @@ pub mod look;
 pub mod map;
 pub mod memory;
 pub mod calls;
+pub mod first_maps;

@@ -89,3 +89,7 @@ planted-holders nodes =
 
 pub planted-slot : (nodes q : ℕ) → slot-of (planted nodes .slots) q ≡ Vacant
 planted-slot nodes q = new-blank 4160 q
+
+-- every slot of a new tree's root is vacant
+pub planted-root : (nodes s : ℕ) → slot-at (planted nodes .slots) 1 s ≡ Vacant
+planted-root nodes s = vacant 4160 65 (record { level = 1; parent = 0; place = 0 }) 1 s
