@@ -26,7 +26,7 @@ use Rattle.tree.specs.Soundness.{Sound, left}
 use Rattle.tree.specs.Need.{need}
 use Rattle.tree.specs.Room.{room-for}
 use Rattle.tree.proofs.Showing.{shown-plain}
-use Rattle.space.specs.Checks.{Check, and-then, unless, unless-found, of-tree, good-range, good-set-up, numbers-check, vacant-check, map-check}
+use Rattle.space.specs.Checks.{Check, and-then, unless, unless-found, of-tree, good-range, good-set-up, numbers-check, vacant-check, map-check, look-check}
 
 both : (a b : Check) → and-then a b ≡ Ok tt → (a ≡ Ok tt) × (b ≡ Ok tt)
 both (Ok x) b e = (refl, e)
@@ -99,3 +99,7 @@ set-up-parts cores frames nodes e =
     , leb-true frames 1024 (and-parts (ltb 0 frames) (leb frames 1024) (b .0) .1)
     , ltb-true 0 nodes (n .0)
     , leb-true nodes 64 (n .1) )
+
+-- a page that a look may name
+pub page-good : (page : ℕ) → look-check page ≡ Ok tt → page < 262144
+page-good page e = ltb-true page 262144 (fine (ltb page 262144) BadRange e)

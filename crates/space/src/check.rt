@@ -6,7 +6,7 @@ ghost use Rattle.model.specs.Flat.{lowest};
 ghost use Rattle.std.specs.declared.option.Option.the-variants.{None};
 ghost use Rattle.tree.specs.Soundness.{Sound};
 ghost use Rattle.tree.specs.Search.{found-at};
-ghost use Rattle.space.specs.Checks.{unless, unless-found, good-range, good-set-up, numbers-check, vacant-check, map-check};
+ghost use Rattle.space.specs.Checks.{unless, unless-found, good-range, good-set-up, numbers-check, vacant-check, map-check, look-check};
 ghost use Rattle.tree.specs.Nodes.{shows};
 use model::fault::Reason;
 use model::fault::SpaceFault;
@@ -48,6 +48,15 @@ pub(super) fn check_range(first: Page, count: u32) -> Result<(), SpaceFault>
     ensures { λ r. ⌜ r ≡ unless (good-range first count) BadRange ⌝ }
 {
     if !in_range(first, count) {
+        return Err(refused(Reason::BadRange));
+    }
+    Ok(())
+}
+
+pub(super) fn check_page(page: Page) -> Result<(), SpaceFault>
+    ensures { λ r. ⌜ r ≡ look-check page ⌝ }
+{
+    if page >= PAGES {
         return Err(refused(Reason::BadRange));
     }
     Ok(())

@@ -2,14 +2,12 @@ ghost use mathlib.Core.Path.{_≡_};
 ghost use Rattle.space.specs.Calls.{look-answer-of};
 ghost use Rattle.space.specs.Linking.{Sound};
 ghost use Rattle.space.specs.States.{state};
-use super::check::refused;
+use super::check::check_page;
 use super::space::Space;
 use counter::counter::Counter;
 use counter::kind::Nodes;
-use model::fault::Reason;
 use model::fault::SpaceFault;
 use model::page::Page;
-use model::sizes::PAGES;
 
 impl<N: Counter<Nodes> + Drop> Space<N> {
     /// What is told of a page: label + 256 × frame + 16,777,216 × (owner + 1).
@@ -17,9 +15,7 @@ impl<N: Counter<Nodes> + Drop> Space<N> {
         requires sound { ⌜ Sound (N·Counter .meaning) (now self) ⌝ }
         ensures { λ r. ⌜ r ≡ look-answer-of page (state (now (self .entry))) ⌝ }
     {
-        if page >= PAGES {
-            return Err(refused(Reason::BadRange));
-        }
+        check_page(page)?;
         Ok(self.tree.look(page).answer())
     }
 }

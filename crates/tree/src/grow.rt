@@ -28,7 +28,7 @@ impl Tree {
     }
 
     /// Slot s of node n.
-    pub fn at(&self, n: NodeId, s: u32) -> Slot
+    pub(super) fn at(&self, n: NodeId, s: u32) -> Slot
         requires { ⌜ n < 65 ⌝ ∗ ⌜ s < 64 ⌝ }
         ensures { λ r. ⌜ r ≡ slot-at (now (self .entry) .slots) n s ⌝ }
     {

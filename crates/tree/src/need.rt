@@ -73,8 +73,8 @@ impl Tree {
         }
     }
 
-    /// How many children a fill of the pages from `first` and below `last` draws, inside new nodes too.
-    pub fn need(&self, first: Page, last: Page) -> usize
+    // How many children a fill of the pages from `first` and below `last` draws, inside new nodes too.
+    fn need(&self, first: Page, last: Page) -> usize
         requires sound { ⌜ Sound (now self) ⌝ }
         requires some { ⌜ first < last ⌝ }
         requires small { ⌜ last ≤ 262144 ⌝ }
