@@ -12,6 +12,7 @@ use Rattle.model.specs.declared.fault.TreeFault.{TreeFault}
 use Rattle.model.specs.declared.fault.SpaceFault.{SpaceFault}
 use Rattle.model.specs.declared.fault.SpaceFault.the-variants as faults
 use Rattle.model.specs.declared.fault.SpaceFault.the-variants.{Refused}
+use Rattle.model.specs.Sizes.{page-count, most-cores, most-frames, most-nodes}
 use Rattle.model.specs.Pages.{closing-by, mapped-state}
 use Rattle.model.specs.Flat.{Flat, lowest}
 use Rattle.tree.specs.Room.{room-for}
@@ -42,11 +43,11 @@ of-tree (Err e) = Err (faults.Tree e)
 
 -- at least one page, and none past the last
 abbrev pub good-range : ℕ → ℕ → Bool
-good-range first count = ltb 0 count && leb (first + count) 262144
+good-range first count = ltb 0 count && leb (first + count) page-count
 
 -- 1 to 16 cores, 1 to 1,024 frames, 1 to 64 nodes
 abbrev pub good-set-up : ℕ → ℕ → ℕ → Bool
-good-set-up cores frames nodes = (ltb 0 cores && leb cores 16) && ((ltb 0 frames && leb frames 1024) && (ltb 0 nodes && leb nodes 64))
+good-set-up cores frames nodes = (ltb 0 cores && leb cores most-cores) && ((ltb 0 frames && leb frames most-frames) && (ltb 0 nodes && leb nodes most-nodes))
 
 abbrev pub set-up-check : ℕ → ℕ → ℕ → Check
 set-up-check cores frames nodes = unless (good-set-up cores frames nodes) BadSetUp
@@ -67,4 +68,4 @@ map-check core label first count cores t =
     and-then (numbers-check cores core label first count) (and-then (vacant-check first count (shows t)) (of-tree (room-for first (first + count) t)))
 
 abbrev pub look-check : ℕ → Check
-look-check page = unless (ltb page 262144) BadRange
+look-check page = unless (ltb page page-count) BadRange

@@ -6,6 +6,7 @@ use Rattle.std.specs.declared.result.Result.{Result}
 use Rattle.std.specs.declared.result.Result.the-variants.{Ok, Err}
 use Rattle.model.specs.declared.fault.SpaceFault.{SpaceFault}
 use Rattle.model.specs.Flat.{all-vacant, map-range}
+use Rattle.model.specs.Sizes.{page-count}
 use Rattle.model.specs.Pages.{fresh}
 use Rattle.counter.specs.Meaning.{Meaning, Operation, begun, given}
 use Rattle.tree.specs.Soundness.{left}
@@ -17,13 +18,13 @@ use Rattle.space.specs.States.{State, state, flat}
 
 -- an accepted set up: every page is vacant; the counter begins anew, with the root held once
 pub record SetUp (cores epoch : ℕ) (m : Meaning) (new : State) : Type 0 where
-  pub vacant : (q : ℕ) → q < 262144 → flat new q ≡ all-vacant q
+  pub vacant : (q : ℕ) → q < page-count → flat new q ≡ all-vacant q
   pub nodes : m ≡ given 1 1 (begun cores epoch)
 
 -- an accepted map: exactly the range is mapped with the label; as many nodes leave the pool as the map needs;
 -- the counter has the holders of every node, and was told of them in walk order
 pub record Maps {N : Type 0} (meaning : N → Meaning) (steps : N → Operation → N → Type 0) (core label first count : ℕ) (old new : Space N) : Type 0 where
-  pub pages : (q : ℕ) → q < 262144 → flat (state new) q ≡ map-range first count label (flat (state old)) q
+  pub pages : (q : ℕ) → q < page-count → flat (state new) q ≡ map-range first count label (flat (state old)) q
   pub nodes : left (new .tree) + need (old .tree .slots) first (first + count) ≡ left (old .tree)
   pub held : Tallied (meaning (new .nodes)) (new .tree)
   pub aside : Aside (meaning (old .nodes)) (meaning (new .nodes))
