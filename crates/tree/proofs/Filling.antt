@@ -15,8 +15,9 @@ use Rattle.tree.specs.declared.table.Tree.{Tree}
 use Rattle.tree.specs.Nodes.{slot-at, link-at, no-link, down, slot-of}
 use Rattle.model.specs.Pages.{Within}
 use Rattle.tree.specs.Soundness.{Linked, Pooled, Sound, left}
-use Rattle.tree.specs.Changes.{Put, Hung, Keeps}
-use Rattle.tree.specs.Filled.{Filled, Free, Others, Entered}
+use Rattle.tree.specs.Walks.{Put, Hung, Keeps}
+use Rattle.tree.specs.Filled.{Filled, Free}
+use Rattle.tree.specs.Walks.{Others, Entered}
 use Rattle.tree.specs.Need.{vacancy}
 use Rattle.tree.proofs.Places.{put-same, put-other}
 use Rattle.tree.proofs.Blocks.{level-2, level-3, leaf-here, leaf-rest, mid-here, mid-rest, root-here, root-rest}

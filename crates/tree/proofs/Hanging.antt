@@ -13,7 +13,8 @@ use Rattle.tree.specs.Nodes.{slot-at, link-at, no-link, slot-of}
 use Rattle.tree.specs.Soundness.{Linked, Pooled, Sound, left}
 use Rattle.tree.specs.declared.pool.Pool.{Pool}
 use Rattle.tree.specs.Pools.{next-object, drawn, unused}
-use Rattle.tree.specs.Changes.{Gives, Hung, hung-from, grown, Keeps}
+use Rattle.tree.specs.Changes.{hung-from, grown}
+use Rattle.tree.specs.Walks.{Gives, Hung, Keeps}
 use Rattle.tree.proofs.Places.{put-same, put-other}
 use Rattle.tree.proofs.Blocks.{grow-shows}
 use Rattle.tree.proofs.Keeping.{grow-linked, child-kept, pool-kept, pool-gives}

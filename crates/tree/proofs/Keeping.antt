@@ -18,7 +18,7 @@ use Rattle.model.specs.Pages.{Within}
 use Rattle.tree.specs.declared.pool.Pool.{Pool}
 use Rattle.tree.specs.Pools.{next-object, drawn, unused}
 use Rattle.tree.specs.Soundness.{Linked, Pooled}
-use Rattle.tree.specs.Changes.{Gives}
+use Rattle.tree.specs.Walks.{Gives}
 use Rattle.tree.proofs.Places.{put-same, put-other, put-cases}
 
 value-child : {x : Slot} (e : Mapping) (k : ℕ) → x ≡ Value e → x ≡ Child k → ⊥

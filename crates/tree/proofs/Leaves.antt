@@ -15,9 +15,10 @@ use Rattle.tree.specs.declared.table.Tree.{Tree}
 use Rattle.tree.specs.Nodes.{slot-at, link-at, down, slot-of}
 use Rattle.tree.specs.Soundness.{Sound, left}
 use Rattle.model.specs.Pages.{Within}
-use Rattle.tree.specs.Changes.{Put}
+use Rattle.tree.specs.Walks.{Put}
 use Rattle.tree.specs.Need.{covers, vacancy, part}
-use Rattle.tree.specs.Filled.{Filled, Free, Others, Leaf-of, Entered}
+use Rattle.tree.specs.Filled.{Filled, Free}
+use Rattle.tree.specs.Walks.{Others, Leaf-of, Entered}
 use Rattle.tree.specs.Holders.{taken, holders}
 use Rattle.tree.proofs.Holding.{holders-gain}
 use Rattle.tree.proofs.Blocks.{level-2, level-3}

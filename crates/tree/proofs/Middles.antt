@@ -11,7 +11,8 @@ use Rattle.tree.specs.declared.table.Tree.{Tree}
 use Rattle.tree.specs.Nodes.{slot-at, link-at, slot-of}
 use Rattle.tree.specs.Soundness.{Sound, left}
 use Rattle.tree.specs.Need.{part, need-by, need-mid}
-use Rattle.tree.specs.Filled.{Filled, Free, Others, Goes}
+use Rattle.tree.specs.Filled.{Filled, Free}
+use Rattle.tree.specs.Walks.{Others, Goes}
 use Rattle.tree.specs.Holders.{holders}
 use Rattle.std.proofs.shelf.Tests.{cases-eq}
 use mathlib.Core.Logic.{_⊎_, ⊎-elim}

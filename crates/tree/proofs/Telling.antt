@@ -18,8 +18,9 @@ use Rattle.tree.specs.declared.slot.Link.{Link}
 use Rattle.tree.specs.declared.table.Tree.{Tree}
 use Rattle.tree.specs.Nodes.{slot-at, link-at}
 use Rattle.tree.specs.Soundness.{Sound}
-use Rattle.tree.specs.Changes.{Put, Hung}
-use Rattle.tree.specs.Filled.{Others, Filled}
+use Rattle.tree.specs.Walks.{Put, Hung}
+use Rattle.tree.specs.Filled.{Filled}
+use Rattle.tree.specs.Walks.{Others}
 use Rattle.counter.specs.Meaning.{how-many}
 use Rattle.tree.specs.Holders.{taken, held, holders, Changed, Counted, Counted-but, Told}
 use Rattle.tree.proofs.Filling.{put-here, put-rest, live-small}

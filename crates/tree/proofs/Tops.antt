@@ -14,9 +14,10 @@ use Rattle.tree.specs.declared.table.Tree.{Tree}
 use Rattle.tree.specs.Nodes.{slot-at, link-at, slot-of}
 use Rattle.tree.specs.Soundness.{Sound, left}
 use Rattle.model.specs.Pages.{Within}
-use Rattle.tree.specs.Changes.{Put}
+use Rattle.tree.specs.Walks.{Put}
 use Rattle.tree.specs.Need.{covers, vacancy, part, need-by, need-mid, root-part, need}
-use Rattle.tree.specs.Filled.{Filled, Free, Others, Entered, Beside}
+use Rattle.tree.specs.Filled.{Filled, Free}
+use Rattle.tree.specs.Walks.{Others, Entered, Beside}
 use Rattle.tree.proofs.Filling.{filled-then, entered-filled, root-filled, put-left, put-rest}
 use Rattle.tree.proofs.Leaves.{covers-true}
 use Rattle.tree.proofs.Needing.{need-same, root-split, root-same}

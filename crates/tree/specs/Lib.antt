@@ -6,5 +6,6 @@ pub mod Search
 pub mod Need
 pub mod Room
 pub mod Holders
+pub mod Walks
 pub mod Filled
 pub mod Fill

@@ -5,7 +5,8 @@ ghost use Rattle.tree.specs.declared.slot.Slot.the-variants.{Vacant, Child, Va
 ghost use Rattle.tree.specs.Pools.{next-object};
 ghost use Rattle.tree.specs.Nodes.{slot-at, link-at, slot-of};
 ghost use Rattle.tree.specs.Soundness.{Sound, left};
-ghost use Rattle.tree.specs.Changes.{planted, written, grown, Hung};
+ghost use Rattle.tree.specs.Changes.{planted, written, grown};
+ghost use Rattle.tree.specs.Walks.{Hung};
 use super::pool::Pool;
 use super::slot::Link;
 use super::slot::NodeId;

@@ -2,7 +2,8 @@ use mathlib.Core.Path.{_≡_}
 use Prim.Native.Nat.{ℕ, _+_, _-_, _<_}
 use Rattle.tree.specs.Soundness.{left}
 use Rattle.tree.specs.Holders.{holders}
-use Rattle.tree.specs.Filled.{Filled, Others}
+use Rattle.tree.specs.Filled.{Filled}
+use Rattle.tree.specs.Walks.{Others}
 use Rattle.tree.specs.Fill.{fill-leaf}
 use Rattle.tree.proofs.table.Tree.fill_leaf.Given as given
 

@@ -7,7 +7,8 @@ use Rattle.tree.proofs.Counting.{aside-none, aside-then, follows-none, follows
 use Rattle.tree.proofs.Exact.{turn-64, blocks-start, blocks-turn, told-blocks-start, told-blocks-turn}
 use Prim.Native.Nat.{ℕ, _+_, _<_, _≤_}
 use native.Mathlib.Omega.{arith}
-use Rattle.tree.specs.Filled.{Filled, Goes}
+use Rattle.tree.specs.Filled.{Filled}
+use Rattle.tree.specs.Walks.{Goes}
 use Rattle.tree.proofs.Filling.{filled-none}
 use Rattle.tree.proofs.Needing.{need-none}
 use Rattle.tree.specs.Nodes.{slot-at}

@@ -4,7 +4,8 @@ use Prim.Native.Nat.{ℕ, _+_, _-_, _<_, _≤_}
 use Rattle.tree.specs.Nodes.{link-at}
 use Rattle.tree.specs.Soundness.{left}
 use Rattle.tree.specs.Need.{need-mid}
-use Rattle.tree.specs.Filled.{Filled, Others, Goes}
+use Rattle.tree.specs.Filled.{Filled}
+use Rattle.tree.specs.Walks.{Others, Goes}
 use Rattle.tree.specs.Holders.{Counted-but, Idle, Aside, Follows}
 use Rattle.tree.specs.Fill.{blocks-met, fill-blocks, told-blocks}
 use Rattle.tree.proofs.table.Tree.fill_middle.Given as given
