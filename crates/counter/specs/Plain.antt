@@ -20,9 +20,11 @@ pub record Table : Type 0 where
   pub folded : ℕ
   pub closed : ℕ
 
+-- the count of an object
 abbrev pub count-at : Table → ℕ → Option ℕ
 count-at t o = getD (t .counts) o None
 
+-- what a table means
 abbrev pub table-meaning : Table → Meaning
 table-meaning t = record { cores = t .cores; epoch = t .epoch; holders = count-at t; folded = member (t .folded); closed = member (t .closed) }
 
@@ -35,15 +37,19 @@ abbrev pub unheld : Option ℕ → Bool
 unheld None = false
 unheld (Some n) = eqb n 0
 
+-- the table with another count of object o
 abbrev pub put-count : ℕ → Option ℕ → Table → Table
 put-count o x t = record { counts = set (t .counts) o x; cores = t .cores; epoch = t .epoch; folded = t .folded; closed = t .closed }
 
+-- the core has folded
 abbrev pub mark-folded : ℕ → Table → Table
 mark-folded c t = record { counts = t .counts; cores = t .cores; epoch = t .epoch; folded = bitOr (t .folded) (2 ^ c); closed = t .closed }
 
+-- the core has closed
 abbrev pub mark-closed : ℕ → Table → Table
 mark-closed c t = record { counts = t .counts; cores = t .cores; epoch = t .epoch; folded = t .folded; closed = bitOr (t .closed) (2 ^ c) }
 
+-- the table in the next epoch
 abbrev pub turned : Table → Table
 turned t = record { counts = t .counts; cores = t .cores; epoch = t .epoch + 1; folded = 0; closed = 0 }
 

@@ -28,6 +28,7 @@ abbrev pub frame-part : Option ℕ → ℕ
 frame-part None = 0
 frame-part (Some f) = f
 
+-- an owner counts one more than its number
 abbrev pub owner-part : Option ℕ → ℕ
 owner-part None = 0
 owner-part (Some c) = c + 1
@@ -42,6 +43,7 @@ pub record Within (m : Mapping) : Type 0 where
   pub owner : owner-part (m .owner) ≤ 16
   pub frame : frame-part (m .frame) ≤ 1024
 
+-- a state that names only cores and frames that there are
 abbrev pub Proper : PageState → Type 0
 Proper Vacant = Unit {0}
 Proper (InUse m) = Within m

@@ -23,6 +23,7 @@ sight-of a =
     (cond (eqb (a / 16777216) 0) (Mapped (a % 256) (frame-told (a / 256 % 65536)))
     (Closing (a / 16777216 - 1) (a % 256) (frame-told (a / 256 % 65536))))
 
+-- what an outcome of a look tells
 abbrev pub sight-told : Result ℕ SpaceFault → Sight
 sight-told (Ok a) = sight-of a
 sight-told (Err e) = Vacant
@@ -31,11 +32,13 @@ sight-told (Err e) = Vacant
 abbrev pub seen-at : State → ℕ → Sight
 seen-at st page = sight-told (look-answer-of page st)
 
+-- whether a page was seen to be mapped
 abbrev pub is-mapped : Sight → Bool
 is-mapped Vacant = false
 is-mapped (Mapped label frame) = true
 is-mapped (Closing owner label frame) = false
 
+-- whether a page was seen to be closing
 abbrev pub is-closing : Sight → Bool
 is-closing Vacant = false
 is-closing (Mapped label frame) = false

@@ -51,13 +51,16 @@ abbrev pub read-answer : Result Call Fault → State → Result ℕ Fault
 read-answer (Ok call) st = call-answer call st
 read-answer (Err e) st = Err e
 
+-- the state that what was read leaves
 abbrev pub read-after : Result Call Fault → State → State
 read-after (Ok call) st = call-after call st
 read-after (Err e) st = st
 
+-- what a record is answered
 unfoldable pub record-outcome : List ℕ → State → Result ℕ Fault
 record-outcome bytes st = read-answer (decoded bytes) st
 
+-- the state that a record leaves
 unfoldable pub record-after : List ℕ → State → State
 record-after bytes st = read-after (decoded bytes) st
 

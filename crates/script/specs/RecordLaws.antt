@@ -29,6 +29,7 @@ encoded (Look page) = laid-out 8 0 0 page 0 0
 abbrev pub Byte : ℕ → Type 0
 Byte n = n < 256
 
+-- a number of four bytes
 abbrev pub Word : ℕ → Type 0
 Word n = n < 2 ^ 32
 

@@ -28,6 +28,7 @@ abbrev pub and-then : Check → Check → Check
 and-then (Ok x) next = next
 and-then (Err e) next = Err e
 
+-- a refusal without a place, unless all is fine
 abbrev pub unless : Bool → Reason → Check
 unless fine reason = cond fine (Ok tt) (Err (Refused reason None))
 
@@ -49,6 +50,7 @@ good-range first count = ltb 0 count && leb (first + count) page-count
 abbrev pub good-set-up : ℕ → ℕ → ℕ → Bool
 good-set-up cores frames nodes = (ltb 0 cores && leb cores most-cores) && ((ltb 0 frames && leb frames most-frames) && (ltb 0 nodes && leb nodes most-nodes))
 
+-- what a set up asks
 abbrev pub set-up-check : ℕ → ℕ → ℕ → Check
 set-up-check cores frames nodes = unless (good-set-up cores frames nodes) BadSetUp
 
@@ -67,5 +69,6 @@ abbrev pub map-check : ℕ → ℕ → ℕ → ℕ → ℕ → Tree → Check
 map-check core label first count cores t =
     and-then (numbers-check cores core label first count) (and-then (vacant-check first count (shows t)) (of-tree (room-for first (first + count) t)))
 
+-- what a look asks: a page that there is
 abbrev pub look-check : ℕ → Check
 look-check page = unless (ltb page page-count) BadRange

@@ -17,5 +17,6 @@ pub record Agrees (st : State) (m : Meaning) : Type 0 where
   pub few : st .cores ≤ 16
   pub frames : Ready 1024 (st .frames)
 
+-- the parts of a space agree
 abbrev pub Sound : {N : Type 0} → (N → Meaning) → Space N → Type 0
 Sound meaning s = ∥ Agrees (state s) (meaning (s .nodes)) ∥₁

@@ -13,6 +13,7 @@ use Rattle.space.specs.States.{State, state}
 use Rattle.space.specs.Instance.{plain-meaning}
 use Rattle.space.specs.Laws.{SetUp, Maps, Accepted}
 
+-- the state of a memory
 abbrev pub memory-state : Memory → State
 memory-state m = state (m .space)
 

@@ -8,6 +8,7 @@ use Rattle.tree.specs.Nodes.{shows}
 use Rattle.tree.specs.Changes.{planted}
 use Rattle.space.specs.declared.space.Space.{Space}
 
+-- cores, epoch, the pool of frames and the tree
 pub record State : Type 0 where
   -- the cores in service are the numbers below this
   pub cores : ℕ
@@ -15,6 +16,7 @@ pub record State : Type 0 where
   pub frames : Pool 1024
   pub tree : Tree
 
+-- the state of a space over any counter
 abbrev pub state : {N : Type 0} → Space N → State
 state s = record { cores = s .cores; epoch = s .epoch; frames = s .frames; tree = s .tree }
 

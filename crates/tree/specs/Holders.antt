@@ -13,6 +13,7 @@ use mathlib.Core.List.{[], _∷_}
 use Rattle.counter.specs.Meaning.{Meaning, Operation, how-many}
 use Rattle.tree.specs.Nodes.{slot-at, link-at}
 
+-- a slot that is not vacant holds its node
 abbrev pub taken : Slot → ℕ
 taken Vacant = 0
 taken (Child k) = 1
@@ -27,6 +28,7 @@ held xs n (suc k) = held xs n k + taken (slot-at xs n k)
 abbrev pub holders : List Slot → ℕ → ℕ
 holders xs n = cond (eqb n 1) 1 0 + held xs n 64
 
+-- f and g differ at i alone, where g is v
 pub record Changed (i : ℕ) (v : Option ℕ) (m n : ℕ → Option ℕ) : Type 0 where
   pub here : n i ≡ v
   pub rest : (j : ℕ) → (j ≡ i → ⊥) → n j ≡ m j

@@ -13,6 +13,7 @@ covers Vacant len size = eqb len size
 covers (Child k) len size = false
 covers (Value e) len size = false
 
+-- a vacant slot that is met in part draws a child
 abbrev pub vacancy : Slot → ℕ
 vacancy Vacant = 1
 vacancy (Child k) = 0
@@ -30,6 +31,7 @@ need-by f first last =
         + cond (eqb (first / 64) ((last - 1) / 64)) 0 (part (f ((last - 1) / 64)) (last - (last - 1) / 64 * 64)))
       0
 
+-- the children that a range draws under the middle node m
 abbrev pub need-mid : List Slot → ℕ → ℕ → ℕ → ℕ
 need-mid slots m first last = need-by (λ x. slot-at slots m (x % 64)) first last
 
@@ -39,6 +41,7 @@ root-part slots Vacant first last = cond (eqb (last - first) 4096) 0 (1 + need-b
 root-part slots (Child m) first last = need-mid slots m first last
 root-part slots (Value e) first last = 0
 
+-- the children that a range draws in all: only the first and the last block of 4,096 pages can be met in part
 unfoldable pub need : List Slot → ℕ → ℕ → ℕ
 need slots first last =
     cond (ltb first last)

@@ -14,6 +14,7 @@ use Rattle.tree.specs.declared.table.Tree.{Tree}
 abbrev pub slot-at : List Slot → ℕ → ℕ → Slot
 slot-at slots n s = getD slots (n * 64 + s) Vacant
 
+-- the link of a free node
 abbrev pub no-link : Link
 no-link = record { level = 0; parent = 0; place = 0 }
 

@@ -40,6 +40,7 @@ pub record Pooled (links : List Link) (p : Pool 64) : Type 0 where
   pub some : (i : ℕ) → i < p .count → 0 < getD (p .returned) i 0
   pub apart : (i j : ℕ) → i < j → j < p .count → getD (p .returned) i 0 ≡ getD (p .returned) j 0 → ⊥
 
+-- a tree whose links and pool are in order
 pub record Sound (t : Tree) : Type 0 where
   pub linked : Linked (t .slots) (t .links)
   pub pooled : Pooled (t .links) (t .pool)
