@@ -1,4 +1,5 @@
-// Tests on examples: refusals with their places, the edges of ranges, scripts of odd lengths.
+// Tests on examples, and uses of interfaces that are proved from their meaning alone.
+pub mod banks;
 #[cfg(test)]
 mod refusals;
 #[cfg(test)]

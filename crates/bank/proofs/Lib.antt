@@ -1,0 +1,4 @@
+mod Tables
+mod Layouts
+mod ReloadFound
+mod ReloadEach

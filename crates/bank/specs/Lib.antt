@@ -1,0 +1,5 @@
+pub mod Meaning
+pub mod Tables
+pub mod Layouts
+pub mod ReloadEntries
+pub mod ReloadRows
