@@ -1,4 +1,6 @@
 // Banks of translations: a partial map from core and page to frame.
+#![tactic(auto)]
+
 pub mod bank;
 pub mod inverted_table;
 pub mod page_tables;

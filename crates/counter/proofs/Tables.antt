@@ -21,7 +21,7 @@ marked bits c = fun_ext (λ x. join_member bits c x ∙ or_cond (member bits x) 
 unmarked : member 0 ≡ (λ _. false)
 unmarked = fun_ext none_member
 
-all_free : (n o : ℕ) → get_or {A = Option ℕ} (replicate n None) o None ≡ None
+pub all_free : (n o : ℕ) → get_or {A = Option ℕ} (replicate n None) o None ≡ None
 all_free zero o = refl
 all_free (suc n) zero = refl
 all_free (suc n) (suc o) = all_free n o

@@ -1,5 +1,7 @@
 // Counters of the holders of objects: what every counter means, for any kind of object,
 // and the plain count, which keeps nothing but the number of holders.
+#![tactic(auto)]
+
 pub mod bound;
 pub mod clock;
 pub mod count;

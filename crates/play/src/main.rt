@@ -1,4 +1,6 @@
 // Plays a script of records on a new memory, writes the answers if asked, and states in words what came of it.
+#![tactic(auto)]
+
 mod failure;
 mod options;
 mod sight;

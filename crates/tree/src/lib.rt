@@ -1,4 +1,6 @@
 // The radix tree of pages: pools of numbered objects, the node table, and the walks over it.
+#![tactic(auto)]
+
 pub mod ends;
 pub mod fill;
 pub mod grow;

@@ -1,4 +1,6 @@
 // Plays stored scripts and compares each answer byte with that of an independent model of the rules.
+#![tactic(auto)]
+
 use anyhow::anyhow;
 use script::player::answers_to;
 use std::fs;
