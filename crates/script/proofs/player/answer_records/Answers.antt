@@ -21,21 +21,21 @@ loop-i-preserved c =
     let inv = c.loop-i.invariant in
     let long : 16 * i + 16 - 16 * i ≡ 16 = omega arith in
     let cut : take (16 * i + 16 - 16 * i) (drop (16 * i) xs) ≡ record_at xs i = ap (λ (n : ℕ). take n (drop (16 * i) xs)) long in
-    let reply = c.answer-record-reply.ensures.reply
+    let reply = c.answer_record-reply.ensures.reply
     ∙ ap (λ (bs : List ℕ). reply_to bs (memory_state c.loop-i.memory)) cut ∙ ap (reply_to (record_at xs i)) inv.1 in
-    let state = c.answer-record-reply.ensures.state
+    let state = c.answer_record-reply.ensures.state
     ∙ ap (λ (bs : List ℕ). record_after bs (memory_state c.loop-i.memory)) cut ∙ ap (record_after (record_at xs i)) inv.1 in (
       c.in-ok-push.ensures.items
-          ∙ ap (λ (rs : List Reply). rs ++ (c.answer-record-reply.result ∷ [])) inv.0
+          ∙ ap (λ (rs : List Reply). rs ++ (c.answer_record-reply.result ∷ [])) inv.0
           ∙ ap (λ (r : Reply). replies_to xs i st ++ (r ∷ [])) reply ∙ sym (replies_more xs st i),
       state ∙ sym (state_more xs st i),
     )
 
 pub returns-in-err-push : goal.returns-in-err-push
 returns-in-err-push c =
-    let p = err_from_is_err_and c.from-residual.result c.from-residual.ensures.1 in
-    let failed : is_err c.from-residual.result ≡ true = rw p.1 refl in
-    record { replies = IfOk-from_err c.from-residual.result _ failed; state = IfOk-from_err c.from-residual.result _ failed }
+    let p = err_from_is_err_and c.from_residual.result c.from_residual.ensures.1 in
+    let failed : is_err c.from_residual.result ≡ true = rw p.1 refl in
+    record { replies = IfOk-from_err c.from_residual.result _ failed; state = IfOk-from_err c.from_residual.result _ failed }
 
 pub returns : goal.returns
 returns c =

@@ -5,13 +5,13 @@ use Rattle.script.specs.declared.answer.Reply.{Reply}
 use Rattle.statement.specs.Tables.{Tabled}
 use Rattle.statement.proofs.Tabling.{none_tabled, times_few, accepted_tabled, refused_tabled}
 use Rattle.statement.proofs.summary.refusals_by_number.Goals as goal
-use Rattle.statement.proofs.summary.refusals_by_number.Goals.{in-Err+in-ok-count-refusal, in-default}
+use Rattle.statement.proofs.summary.refusals_by_number.Goals.{in-Err+in-ok-count_refusal, in-default}
 
 pub loop-reply-init : goal.loop-reply-init
 loop-reply-init c = none_tabled c.new-refusals.ensures.keys c.new-refusals.ensures.vals
 
-pub count-refusal-requires : goal.count-refusal-requires
-count-refusal-requires c =
+pub count_refusal-requires : goal.count_refusal-requires
+count_refusal-requires c =
     let old = c.loop-reply.invariant in
     let i = c.loop-reply.reply-index in
     let xs = c.args.replies.now in
@@ -29,8 +29,8 @@ loop-reply-preserved c =
     let old = c.loop-reply.invariant in
     let after : Tabled (take i xs ++ (r ∷ [])) c.match-reply.refusals =
     elim c.match-reply.branch [
-      | in-Err+in-ok-count-refusal w ↦
-          subst (λ m. Tabled (take i xs ++ (r ∷ [])) m) (sym w.refusals-is) (refused_tabled old w.in-ok-count-refusal.ensures r w.in-Err.is)
+      | in-Err+in-ok-count_refusal w ↦
+          subst (λ m. Tabled (take i xs ++ (r ∷ [])) m) (sym w.refusals-is) (refused_tabled old w.in-ok-count_refusal.ensures r w.in-Err.is)
       | in-default w ↦ subst (λ m. Tabled (take i xs ++ (r ∷ [])) m) (sym w.refusals-is) (accepted_tabled r w.in-default.field-0 w.in-default.is old)
     ]
     in

@@ -15,7 +15,7 @@ loop-word-preserved-then-eq c =
     let ps = places_of c.loop-word.named in
     let w = c.in-Some.word in
     let rest = into_iter_items c.next.new.self in
-    let e : string_bytes w ≡ codes "--brief" = sym c.as-str.ensures.value ∙ c.eq.ensures.0 c.if-eq.true in
+    let e : string_bytes w ≡ codes "--brief" = sym c.as_str.ensures.value ∙ c.eq.ensures.0 c.if-eq.true in
     turn ps b w rest _ c.in-Some.ensures.steps.0 c.loop-word.invariant (brief_word ps b (string_bytes w) (map string_bytes rest) e)
 
 pub loop-word-preserved : goal.loop-word-preserved
@@ -24,8 +24,8 @@ loop-word-preserved c =
     let ps = places_of c.loop-word.named in
     let w = c.in-Some.word in
     let rest = into_iter_items c.next.new.self in
-    let short = other_text (string_bytes w) _ (codes "--brief") _ c.as-str.ensures.value c.eq.ensures c.if-eq.false in
-    let flag = ap is_flag (sym c.as-str-else-eq.ensures.value) ∙ sym c.is-flag.ensures ∙ c.if-is-flag.false in
+    let short = other_text (string_bytes w) _ (codes "--brief") _ c.as_str.ensures.value c.eq.ensures c.if-eq.false in
+    let flag = ap is_flag (sym c.as_str-else-eq.ensures.value) ∙ sym c.is_flag.ensures ∙ c.if-is_flag.false in
     let more = c.in-ok-named.ensures ∙ ap (one_more ps) c.named.ensures in
     turn ps b w rest _ c.in-Some.ensures.steps.0 c.loop-word.invariant
     (next_word ps b (string_bytes w) (map string_bytes rest) (places_of c.in-ok-named.named) short flag more)
@@ -40,18 +40,18 @@ returns c =
     ∙ sym (no_word ps b)
     ∙ ap (λ (xs : List (String Global)). wished_after ps b (map string_bytes xs)) (sym none)
     ∙ c.loop-word.invariant
-    ∙ ap (λ (xs : List (String Global)). wished (map string_bytes xs)) c.into-iter-word-iterator.ensures.into-iter-gives.0
+    ∙ ap (λ (xs : List (String Global)). wished (map string_bytes xs)) c.into_iter-word-iterator.ensures.into_iter-gives.0
 
-pub returns-then-is-flag : goal.returns-then-is-flag
-returns-then-is-flag c =
+pub returns-then-is_flag : goal.returns-then-is_flag
+returns-then-is_flag c =
     let b = c.loop-word.brief in
     let ps = places_of c.loop-word.named in
     let w = c.in-Some.word in
     let rest = into_iter_items c.next.new.self in
-    let short = other_text (string_bytes w) _ (codes "--brief") _ c.as-str.ensures.value c.eq.ensures c.if-eq.false in
-    let flag = ap is_flag (sym c.as-str-else-eq.ensures.value) ∙ sym c.is-flag.ensures ∙ c.if-is-flag.true in
+    let short = other_text (string_bytes w) _ (codes "--brief") _ c.as_str.ensures.value c.eq.ensures c.if-eq.false in
+    let flag = ap is_flag (sym c.as_str-else-eq.ensures.value) ∙ sym c.is_flag.ensures ∙ c.if-is_flag.true in
     turn ps b w rest _ c.in-Some.ensures.steps.0 c.loop-word.invariant (flag_word ps b (string_bytes w) (map string_bytes rest) short flag)
-    ∙ ap (λ (xs : List (String Global)). wished (map string_bytes xs)) c.into-iter-word-iterator.ensures.into-iter-gives.0
+    ∙ ap (λ (xs : List (String Global)). wished (map string_bytes xs)) c.into_iter-word-iterator.ensures.into_iter-gives.0
 
 pub returns-in-err-named : goal.returns-in-err-named
 returns-in-err-named c =
@@ -59,9 +59,9 @@ returns-in-err-named c =
     let ps = places_of c.loop-word.named in
     let w = c.in-Some.word in
     let rest = into_iter_items c.next.new.self in
-    let short = other_text (string_bytes w) _ (codes "--brief") _ c.as-str.ensures.value c.eq.ensures c.if-eq.false in
-    let flag = ap is_flag (sym c.as-str-else-eq.ensures.value) ∙ sym c.is-flag.ensures ∙ c.if-is-flag.false in
+    let short = other_text (string_bytes w) _ (codes "--brief") _ c.as_str.ensures.value c.eq.ensures c.if-eq.false in
+    let flag = ap is_flag (sym c.as_str-else-eq.ensures.value) ∙ sym c.is_flag.ensures ∙ c.if-is_flag.false in
     let more = ap places_read (sym c.in-err-named.was) ∙ c.with.ensures ∙ ap (one_more ps) c.named.ensures in
-    refusal_read c.from-residual.result c.from-residual.ensures.0
+    refusal_read c.from_residual.result c.from_residual.ensures.0
     ∙ turn ps b w rest _ c.in-Some.ensures.steps.0 c.loop-word.invariant (third_word ps b (string_bytes w) (map string_bytes rest) short flag more)
-    ∙ ap (λ (xs : List (String Global)). wished (map string_bytes xs)) c.into-iter-word-iterator.ensures.into-iter-gives.0
+    ∙ ap (λ (xs : List (String Global)). wished (map string_bytes xs)) c.into_iter-word-iterator.ensures.into_iter-gives.0

@@ -10,6 +10,6 @@ pub returns : goal.returns
 returns c =
     let core = c.args.core in
     let st = state c.args.self.now in
-    let first = c.fold-slots.ensures in
+    let first = c.fold_slots.ensures in
     let clock = c.fold.ensures ∙ ap (clock_folds core) (ap (λ (t : State). t.clock) first ∙ first_clock core 16 st) in
     record { tables = ap₂ put_clock clock first; answer = tt }

@@ -7,5 +7,5 @@ use Rattle.ledger.proofs.ledger.Ledger.move_change.Goals as goal
 
 pub returns : goal.returns
 returns c =
-    let is = c.next-change-change.ensures ∙ ap (λ s. change_in s +ℤ by_of c.args.way) c.at-slot.ensures.value in
+    let is = c.next_change-change.ensures ∙ ap (λ s. change_in s +ℤ by_of c.args.way) c.at-slot.ensures.value in
     moves c.args.way _ c.args.core c.args.object (state c.args.self.now) _ c.put.ensures (omega (arith, ints, is, c.requires.small))

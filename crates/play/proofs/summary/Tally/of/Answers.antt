@@ -14,8 +14,8 @@ loop-reply-preserved c =
     let i = c.loop-reply.reply-index in
     let blank : Reply = record { kind = 0; core = 0; outcome = Ok 0; epoch = 0 } in (
       (c.with-tally.ensures.accepted
-          ∙ ap (λ (n : ℕ). n + one c.is-ok.result) c.loop-reply.invariant.0
-          ∙ ap (λ (b : Bool). accepted_in (take i xs) + one b) c.is-ok.ensures.value
+          ∙ ap (λ (n : ℕ). n + one c.is_ok.result) c.loop-reply.invariant.0
+          ∙ ap (λ (b : Bool). accepted_in (take i xs) + one b) c.is_ok.ensures.value
           ∙ sym (accepted_more (take i xs) (get_or xs i blank))
           ∙ ap accepted_in (sym (take_more xs i blank c.loop-reply-test.true))),
       omega (arith, c.with-tally.ensures.all, c.loop-reply.invariant.1),

@@ -2,8 +2,8 @@ use Rattle.std.proofs.Common.{arith}
 use Rattle.space.proofs.Opening.{opened}
 use Rattle.space.proofs.memory.Memory.nodes_in_use.Goals as goal
 
-pub free-nodes-requires : goal.free-nodes-requires
-free-nodes-requires c = (opened c.args.self.now.sound).tree
+pub free_nodes-requires : goal.free_nodes-requires
+free_nodes-requires c = (opened c.args.self.now.sound).tree
 
 pub overflow-sub-result : goal.overflow-sub-result
-overflow-sub-result c = let ok = (opened c.args.self.now.sound).tree.pooled in omega (arith, c.free-nodes.ensures, ok.fit, ok.past)
+overflow-sub-result c = let ok = (opened c.args.self.now.sound).tree.pooled in omega (arith, c.free_nodes.ensures, ok.fit, ok.past)

@@ -25,19 +25,19 @@ loop-at-init g c = (
   λ h. absurd (omega (arith, h)),
 )
 
-pub fill-top-requires : goal.fill-top-requires
-fill-top-requires g c =
+pub fill_top-requires : goal.fill_top-requires
+fill_top-requires g c =
     let i = c.loop-at.invariant in
     let to = c.loop-at-test.true in
-    let is = c.top-end-stop.ensures in
+    let is = c.top_end-stop.ensures in
     record {
       sound = i.2.sound;
       fits = c.requires.fits;
       some = omega arith;
       small = omega arith;
       block = omega arith;
-      free = top_free _ _ _ _ c.loop-at.at c.top-end-stop.result _ c.requires.small c.requires.free c.requires.room i.0 to is i.2 i.3;
-      room = top_room _ _ _ _ c.loop-at.at c.top-end-stop.result _ c.requires.small c.requires.free c.requires.room i.0 to is i.2 i.3;
+      free = top_free _ _ _ _ c.loop-at.at c.top_end-stop.result _ c.requires.small c.requires.free c.requires.room i.0 to is i.2 i.3;
+      room = top_room _ _ _ _ c.loop-at.at c.top_end-stop.result _ c.requires.small c.requires.free c.requires.room i.0 to is i.2 i.3;
       core = subst (λ (x : ℕ). c.args.core < x) (sym i.6.cores) c.requires.core;
       counted = i.4;
       idle = i.5;
@@ -47,25 +47,25 @@ pub loop-at-preserved : goal.loop-at-preserved
 loop-at-preserved g c =
     let i = c.loop-at.invariant in
     let to = c.loop-at-test.true in
-    let is = c.top-end-stop.ensures in
-    let b = c.fill-top.ensures in
-    let t = turn_4096 c.args.first c.args.last c.loop-at.at c.top-end-stop.result i.0 to (λ lt. i.9 lt to) is in (
+    let is = c.top_end-stop.ensures in
+    let b = c.fill_top.ensures in
+    let t = turn_4096 c.args.first c.args.last c.loop-at.at c.top_end-stop.result i.0 to (λ lt. i.9 lt to) is in (
       omega arith,
       omega arith,
-      top_turn_filled _ _ _ _ c.loop-at.at c.top-end-stop.result _ c.requires.small c.requires.free c.requires.room i.0 to is i.2 i.3 _ b.filled b.left b.others,
-      top_turn_count _ _ _ _ c.loop-at.at c.top-end-stop.result _ c.requires.small c.requires.free c.requires.room i.0 to is i.2 i.3 _ b.filled b.left b.others,
+      top_turn_filled _ _ _ _ c.loop-at.at c.top_end-stop.result _ c.requires.small c.requires.free c.requires.room i.0 to is i.2 i.3 _ b.filled b.left b.others,
+      top_turn_count _ _ _ _ c.loop-at.at c.top_end-stop.result _ c.requires.small c.requires.free c.requires.room i.0 to is i.2 i.3 _ b.filled b.left b.others,
       b.counted,
       b.idle,
       aside_then _ _ _ i.6 b.aside,
-      tops_turn c.args.first c.args.last c.args.e c.args.self.now c.loop-at.at c.top-end-stop.result c.loop-at.self c.fill-top.new.self t i.7 b.exact,
-      subst (λ (os : List Operation). Follows g.C.Counter.steps os c.args.counter.now c.fill-top.new.counter)
-          (sym (told_tops_turn c.args.first c.args.last c.args.e c.args.self.now c.args.core c.loop-at.at c.top-end-stop.result c.loop-at.self t i.7))
+      tops_turn c.args.first c.args.last c.args.e c.args.self.now c.loop-at.at c.top_end-stop.result c.loop-at.self c.fill_top.new.self t i.7 b.exact,
+      subst (λ (os : List Operation). Follows g.C.Counter.steps os c.args.counter.now c.fill_top.new.counter)
+          (sym (told_tops_turn c.args.first c.args.last c.args.e c.args.self.now c.args.core c.loop-at.at c.top_end-stop.result c.loop-at.self t i.7))
           (follows_then g.C.Counter.steps _ _ _ _ _ i.8 b.told),
       λ _ lt. omega (arith, lt, is),
     )
 
 pub loop-at-smaller : goal.loop-at-smaller
-loop-at-smaller g c = let is = c.top-end-stop.ensures in omega arith
+loop-at-smaller g c = let is = c.top_end-stop.ensures in omega arith
 
 pub returns : goal.returns
 returns g c =

@@ -91,8 +91,8 @@ give-requires g c =
       some = (omega (arith, c.requires.some), omega (arith, c.requires.some, c.requires.block));
     }
 
-pub fill-leaf-requires : goal.fill-leaf-requires
-fill-leaf-requires g c =
+pub fill_leaf-requires : goal.fill_leaf-requires
+fill_leaf-requires g c =
     let l = mid_level c.args.self.now c.args.m c.args.first c.args.last c.args.e c.requires.sound c.requires.some c.requires.small c.requires.block c.requires.path c.requires.free in
     let w = c.grow-n.ensures.hung in
     let i = hung_entered c.args.m (c.args.first / 64 % 64) c.grow-n.result c.args.self.now c.grow-n.new.self c.requires.sound (omega arith) c.requires.node (omega (arith, l)) (sym c.in-Vacant.ensures) w in
@@ -107,8 +107,8 @@ fill-leaf-requires g c =
       free = λ q x y. w.shown q (omega arith) ∙ c.requires.free q x y;
     }
 
-pub fill-leaf-requires-in-Child : goal.fill-leaf-requires-in-Child
-fill-leaf-requires-in-Child g c =
+pub fill_leaf-requires-in-Child : goal.fill_leaf-requires-in-Child
+fill_leaf-requires-in-Child g c =
     let a = sym c.in-Child.ensures in
     let l = level_3 c.args.self.now.slots c.args.self.now.slots c.args.self.now.links c.requires.sound.linked c.args.first c.args.m c.in-Child.n (omega arith) c.requires.path a in
     record {
@@ -122,8 +122,8 @@ fill-leaf-requires-in-Child g c =
       free = c.requires.free;
     }
 
-pub revive-all-requires : goal.revive-all-requires
-revive-all-requires g c =
+pub revive_all-requires : goal.revive_all-requires
+revive_all-requires g c =
     let a = sym c.in-Child.ensures in
     let l = level_3 c.args.self.now.slots c.args.self.now.slots c.args.self.now.links c.requires.sound.linked c.args.first c.args.m c.in-Child.n (omega arith) c.requires.path a in
     let lm = mid_level c.args.self.now c.args.m c.args.first c.args.last c.args.e c.requires.sound c.requires.some c.requires.small c.requires.block c.requires.path c.requires.free in
@@ -133,7 +133,7 @@ revive-all-requires g c =
       core = c.requires.core;
       node = (live_some c.args.self.now c.requires.sound c.in-Child.n live, omega (arith, live_small _ c.requires.sound c.in-Child.n live));
       known = ap is_some held;
-      few = omega (arith, ap how_many held, c.fill-leaf-in-Child.ensures.gained, holders_small c.fill-leaf-in-Child.new.self.slots c.in-Child.n);
+      few = omega (arith, ap how_many held, c.fill_leaf-in-Child.ensures.gained, holders_small c.fill_leaf-in-Child.new.self.slots c.in-Child.n);
     }
 
 pub returns-in-Vacant : goal.returns-in-Vacant
@@ -144,15 +144,15 @@ returns-in-Vacant g c =
     let was = sym c.in-Vacant.ensures in
     let part = open_vacant (slot_at c.args.self.now.slots c.args.m (c.args.first / 64 % 64)) (c.args.last - c.args.first) 64 was c.if-whole.ensures in
     let i = hung_entered c.args.m (c.args.first / 64 % 64) c.grow-n.result c.args.self.now c.grow-n.new.self c.requires.sound (omega arith) c.requires.node live was w in
-    let f = c.fill-leaf.ensures in
+    let f = c.fill_leaf.ensures in
     let tell = c.tell-in-Vacant.ensures in
     let gave = given_changed c.grow-n.result (c.args.last - c.args.first) _ _ c.give.ensures.means in
     let apart : c.args.m ≡ c.grow-n.result → ⊥ = not_same c.args.self.now c.args.m c.grow-n.result (λ e. omega (arith, e, w.idle, l)) in
-    let same = holders_same c.grow-n.new.self.slots c.fill-leaf.new.self.slots c.args.m
+    let same = holders_same c.grow-n.new.self.slots c.fill_leaf.new.self.slots c.args.m
     (λ t ht. f.others c.args.m t ht (omega (arith, ap (λ (u : Link). u.level) (i.levels c.args.m live), l)) apart) in
     let gains = hung_gains c.args.older c.args.m c.args.self.now c.grow-n.new.self (c.args.first / 64 % 64) c.grow-n.result c.requires.sound c.requires.node (omega arith) live was w in
     record {
-      exact = block_grown c.args.m c.args.first c.args.last c.args.e c.args.self.now c.grow-n.result c.grow-n.new.self c.fill-leaf.new.self was part
+      exact = block_grown c.args.m c.args.first c.args.last c.args.e c.args.self.now c.grow-n.result c.grow-n.new.self c.fill_leaf.new.self was part
           c.grow-n.ensures.child c.grow-n.ensures.exact f.exact;
       told = subst (λ (os : List Operation). Follows g.C.Counter.steps os c.args.counter.now c.give.new.self)
           (sym (told_part c.args.m c.args.first c.args.last c.args.e c.args.self.now c.args.older c.args.core was part))
@@ -160,9 +160,9 @@ returns-in-Vacant g c =
           (subst (λ (k : ℕ). Follows g.C.Counter.steps (Give k (c.args.last - c.args.first) ∷ []) c.tell-in-Vacant.new.counter c.give.new.self) c.grow-n.ensures.child
           (follows_one g.C.Counter.steps _ _ _ c.give.ensures.exact)));
       filled = filled_then c.args.first c.args.first c.args.last c.args.e _ _ _ (omega arith) (omega arith) (entered_filled _ _ _ _ _ _ _ i) f.filled;
-      left = inner_left _ _ _ _ c.args.e c.requires.sound c.requires.some c.requires.small c.requires.block c.requires.path c.requires.free c.grow-n.new.self c.fill-leaf.new.self c.grow-n.result c.if-whole.ensures i f.filled f.left f.others;
-      others = inner_others _ _ _ _ c.args.e c.requires.sound c.requires.some c.requires.small c.requires.block c.requires.path c.requires.free c.grow-n.new.self c.fill-leaf.new.self c.grow-n.result c.if-whole.ensures i f.filled f.left f.others;
-      counted = but_new c.args.older c.args.m c.args.self.now c.grow-n.new.self (c.args.first / 64 % 64) c.grow-n.result c.requires.sound c.requires.node (omega arith) live was w _ _ _ c.fill-leaf.new.self (c.args.last - c.args.first) c.requires.counted tell.changed gave f.gained f.links f.others;
+      left = inner_left _ _ _ _ c.args.e c.requires.sound c.requires.some c.requires.small c.requires.block c.requires.path c.requires.free c.grow-n.new.self c.fill_leaf.new.self c.grow-n.result c.if-whole.ensures i f.filled f.left f.others;
+      others = inner_others _ _ _ _ c.args.e c.requires.sound c.requires.some c.requires.small c.requires.block c.requires.path c.requires.free c.grow-n.new.self c.fill_leaf.new.self c.grow-n.result c.if-whole.ensures i f.filled f.left f.others;
+      counted = but_new c.args.older c.args.m c.args.self.now c.grow-n.new.self (c.args.first / 64 % 64) c.grow-n.result c.requires.sound c.requires.node (omega arith) live was w _ _ _ c.fill_leaf.new.self (c.args.last - c.args.first) c.requires.counted tell.changed gave f.gained f.links f.others;
       idle = λ n h.
           let mid : (link_at c.grow-n.new.self.links n).level ≡ 0 = sym (ap (λ (u : List Link). (link_at u n).level) f.links) ∙ h in
           let not_k : n ≡ c.grow-n.result → ⊥ = not_same c.grow-n.new.self n c.grow-n.result (λ e. omega (arith, e, mid, w.level)) in
@@ -179,19 +179,19 @@ returns-in-Child g c =
     let l = level_3 c.args.self.now.slots c.args.self.now.slots c.args.self.now.links c.requires.sound.linked c.args.first c.args.m c.in-Child.n (omega arith) c.requires.path a in
     let lm = mid_level c.args.self.now c.args.m c.args.first c.args.last c.args.e c.requires.sound c.requires.some c.requires.small c.requires.block c.requires.path c.requires.free in
     let live : 0 < (link_at c.args.self.now.links c.in-Child.n).level = omega (arith, l) in
-    let f = c.fill-leaf-in-Child.ensures in
-    let r = c.revive-all.ensures in
+    let f = c.fill_leaf-in-Child.ensures in
+    let r = c.revive_all.ensures in
     let i = child_entered c.args.m (c.args.first / 64 % 64) c.in-Child.n c.args.self.now c.requires.sound (omega arith) a in
     let apart : c.in-Child.n ≡ c.args.m → ⊥ = not_same c.args.self.now c.in-Child.n c.args.m (λ x. omega (arith, x, l, lm)) in
     record {
       exact = f.exact ∙ sym (block_child c.args.m c.args.first c.args.last c.args.e c.args.self.now c.in-Child.n a);
-      told = subst (λ (os : List Operation). Follows g.C.Counter.steps os c.args.counter.now c.revive-all.new.counter)
+      told = subst (λ (os : List Operation). Follows g.C.Counter.steps os c.args.counter.now c.revive_all.new.counter)
           (sym (told_child c.args.m c.args.first c.args.last c.args.e c.args.self.now c.args.older c.args.core c.in-Child.n a))
           r.told;
       filled = f.filled;
-      left = inner_left _ _ _ _ c.args.e c.requires.sound c.requires.some c.requires.small c.requires.block c.requires.path c.requires.free c.args.self.now c.fill-leaf-in-Child.new.self c.in-Child.n c.if-whole.ensures i f.filled f.left f.others;
-      others = inner_others _ _ _ _ c.args.e c.requires.sound c.requires.some c.requires.small c.requires.block c.requires.path c.requires.free c.args.self.now c.fill-leaf-in-Child.new.self c.in-Child.n c.if-whole.ensures i f.filled f.left f.others;
-      counted = but_leaf c.args.older c.args.m _ _ c.args.self.now c.fill-leaf-in-Child.new.self c.in-Child.n (c.args.last - c.args.first) c.requires.counted live
+      left = inner_left _ _ _ _ c.args.e c.requires.sound c.requires.some c.requires.small c.requires.block c.requires.path c.requires.free c.args.self.now c.fill_leaf-in-Child.new.self c.in-Child.n c.if-whole.ensures i f.filled f.left f.others;
+      others = inner_others _ _ _ _ c.args.e c.requires.sound c.requires.some c.requires.small c.requires.block c.requires.path c.requires.free c.args.self.now c.fill_leaf-in-Child.new.self c.in-Child.n c.if-whole.ensures i f.filled f.left f.others;
+      counted = but_leaf c.args.older c.args.m _ _ c.args.self.now c.fill_leaf-in-Child.new.self c.in-Child.n (c.args.last - c.args.first) c.requires.counted live
           apart r.changed f.gained f.links f.others;
       idle = λ n h.
           let old : (link_at c.args.self.now.links n).level ≡ 0 = sym (ap (λ (u : List Link). (link_at u n).level) f.links) ∙ h in

@@ -29,11 +29,11 @@ loop-at-init g c = (
       (sym (told_blocks_start c.args.m c.args.first c.args.last c.args.e c.args.self.now c.args.older c.args.core)) (follows_none g.C.Counter.steps _),
 )
 
-pub fill-block-requires : goal.fill-block-requires
-fill-block-requires g c =
+pub fill_block-requires : goal.fill_block-requires
+fill_block-requires g c =
     let i = c.loop-at.invariant in
     let to = c.loop-at-test.true in
-    let is = c.block-end-stop.ensures in
+    let is = c.block_end-stop.ensures in
     record {
       sound = i.2.sound;
       fits = c.requires.fits;
@@ -41,9 +41,9 @@ fill-block-requires g c =
       some = omega arith;
       small = omega arith;
       block = omega arith;
-      path = path_now _ _ _ _ _ c.loop-at.at c.block-end-stop.result _ c.requires.small c.requires.block c.requires.path c.requires.free c.requires.room i.0 to is i.2 i.3;
-      free = free_now _ _ _ _ _ c.loop-at.at c.block-end-stop.result _ c.requires.small c.requires.block c.requires.path c.requires.free c.requires.room i.0 to is i.2 i.3;
-      room = room_now _ _ _ _ _ c.loop-at.at c.block-end-stop.result _ c.requires.small c.requires.block c.requires.path c.requires.free c.requires.room i.0 to is i.2 i.3;
+      path = path_now _ _ _ _ _ c.loop-at.at c.block_end-stop.result _ c.requires.small c.requires.block c.requires.path c.requires.free c.requires.room i.0 to is i.2 i.3;
+      free = free_now _ _ _ _ _ c.loop-at.at c.block_end-stop.result _ c.requires.small c.requires.block c.requires.path c.requires.free c.requires.room i.0 to is i.2 i.3;
+      room = room_now _ _ _ _ _ c.loop-at.at c.block_end-stop.result _ c.requires.small c.requires.block c.requires.path c.requires.free c.requires.room i.0 to is i.2 i.3;
       core = subst (λ (x : ℕ). c.args.core < x) (sym i.9.cores) c.requires.core;
       counted = i.5;
       idle = i.8;
@@ -53,27 +53,27 @@ pub loop-at-preserved : goal.loop-at-preserved
 loop-at-preserved g c =
     let i = c.loop-at.invariant in
     let to = c.loop-at-test.true in
-    let is = c.block-end-stop.ensures in
-    let b = c.fill-block.ensures in
-    let t = turn_64 c.args.first c.args.last c.loop-at.at c.block-end-stop.result i.0 to (λ lt. i.6.even lt to) is in (
+    let is = c.block_end-stop.ensures in
+    let b = c.fill_block.ensures in
+    let t = turn_64 c.args.first c.args.last c.loop-at.at c.block_end-stop.result i.0 to (λ lt. i.6.even lt to) is in (
       omega arith,
       omega arith,
-      turn_filled _ _ _ _ _ c.loop-at.at c.block-end-stop.result _ c.requires.small c.requires.block c.requires.path c.requires.free c.requires.room i.0 to is i.2 i.3 _ b.filled b.left b.others,
-      turn_count _ _ _ _ _ c.loop-at.at c.block-end-stop.result _ c.requires.small c.requires.block c.requires.path c.requires.free c.requires.room i.0 to is i.2 i.3 _ b.filled b.left b.others,
-      turn_others _ _ _ _ _ c.loop-at.at c.block-end-stop.result _ c.requires.small c.requires.block c.requires.path c.requires.free c.requires.room i.0 to is i.2 i.3 _ b.filled b.left b.others i.4,
+      turn_filled _ _ _ _ _ c.loop-at.at c.block_end-stop.result _ c.requires.small c.requires.block c.requires.path c.requires.free c.requires.room i.0 to is i.2 i.3 _ b.filled b.left b.others,
+      turn_count _ _ _ _ _ c.loop-at.at c.block_end-stop.result _ c.requires.small c.requires.block c.requires.path c.requires.free c.requires.room i.0 to is i.2 i.3 _ b.filled b.left b.others,
+      turn_others _ _ _ _ _ c.loop-at.at c.block_end-stop.result _ c.requires.small c.requires.block c.requires.path c.requires.free c.requires.room i.0 to is i.2 i.3 _ b.filled b.left b.others i.4,
       b.counted,
-      turn_goes _ _ _ _ _ c.loop-at.at c.block-end-stop.result _ c.requires.small c.requires.block c.requires.path c.requires.free c.requires.room i.0 to is i.2 i.3 _ b.filled b.left b.others i.6 b.gained,
+      turn_goes _ _ _ _ _ c.loop-at.at c.block_end-stop.result _ c.requires.small c.requires.block c.requires.path c.requires.free c.requires.room i.0 to is i.2 i.3 _ b.filled b.left b.others i.6 b.gained,
       (λ o. b.quiet o ∙ i.7 o),
       b.idle,
       aside_then _ _ _ i.9 b.aside,
-      blocks_turn c.args.m c.args.first c.args.last c.args.e c.args.self.now c.loop-at.at c.block-end-stop.result c.loop-at.self c.fill-block.new.self t i.10 b.exact,
-      subst (λ (os : List Operation). Follows g.C.Counter.steps os c.args.counter.now c.fill-block.new.counter)
-          (sym (told_blocks_turn c.args.m c.args.first c.args.last c.args.e c.args.self.now c.args.older c.args.core c.loop-at.at c.block-end-stop.result c.loop-at.self t i.10))
+      blocks_turn c.args.m c.args.first c.args.last c.args.e c.args.self.now c.loop-at.at c.block_end-stop.result c.loop-at.self c.fill_block.new.self t i.10 b.exact,
+      subst (λ (os : List Operation). Follows g.C.Counter.steps os c.args.counter.now c.fill_block.new.counter)
+          (sym (told_blocks_turn c.args.m c.args.first c.args.last c.args.e c.args.self.now c.args.older c.args.core c.loop-at.at c.block_end-stop.result c.loop-at.self t i.10))
           (follows_then g.C.Counter.steps _ _ _ _ _ i.11 b.told),
     )
 
 pub loop-at-smaller : goal.loop-at-smaller
-loop-at-smaller g c = let is = c.block-end-stop.ensures in omega arith
+loop-at-smaller g c = let is = c.block_end-stop.ensures in omega arith
 
 pub returns : goal.returns
 returns g c =

@@ -92,8 +92,8 @@ give-requires g c =
       some = (omega (arith, c.requires.some), omega (arith, c.requires.some, c.requires.block));
     }
 
-pub fill-middle-requires : goal.fill-middle-requires
-fill-middle-requires g c =
+pub fill_middle-requires : goal.fill_middle-requires
+fill_middle-requires g c =
     let live : 0 < (link_at c.args.self.now.links 1).level = omega (arith, c.requires.sound.linked.root) in
     let was = sym c.in-Vacant.ensures in
     let w = c.grow-m.ensures.hung in
@@ -122,8 +122,8 @@ fill-middle-requires g c =
           gave.rest j not_k ∙ rose.rest j (not_same c.args.self.now j 1 (λ e. omega (arith, e, old, live))) ∙ c.requires.idle j old;
     }
 
-pub fill-middle-requires-in-Child : goal.fill-middle-requires-in-Child
-fill-middle-requires-in-Child g c =
+pub fill_middle-requires-in-Child : goal.fill_middle-requires-in-Child
+fill_middle-requires-in-Child g c =
     let a = sym c.in-Child.ensures in
     let i = child_entered 1 (c.args.first / 4096) c.in-Child.m c.args.self.now c.requires.sound (omega arith) a in
     let n = inner_need c.args.self.now c.args.first c.args.last c.args.e c.requires.sound c.requires.some c.requires.small c.requires.block c.args.self.now c.in-Child.m i c.if-whole.ensures
@@ -152,22 +152,22 @@ returns-in-Vacant g c =
     let i = hung_entered 1 (c.args.first / 4096) c.grow-m.result c.args.self.now c.grow-m.new.self c.requires.sound (omega arith) (omega arith) live was w in
     let n = inner_need c.args.self.now c.args.first c.args.last c.args.e c.requires.sound c.requires.some c.requires.small c.requires.block c.grow-m.new.self c.grow-m.result i c.if-whole.ensures
     (root_open _ c.args.first (c.requires.free c.args.first (omega arith) c.requires.some)) in
-    let f = c.fill-middle.ensures in
+    let f = c.fill_middle.ensures in
     let gave = given_changed c.grow-m.result ((c.args.last - 1) / 64 + 1 - c.args.first / 64) (g.C.Counter.meaning c.revive-in-Vacant.new.self) (g.C.Counter.meaning c.give.new.self) c.give.ensures.means in
     let blank = hung_blank true 1 c.args.self.now c.grow-m.new.self (c.args.first / 4096) c.grow-m.result c.requires.sound (omega arith) (omega arith) live was w in
     let gain = f.goes.gain (i.blank was) c.requires.some in
     record {
-      exact = top_grown c.args.first c.args.last c.args.e c.args.self.now c.grow-m.result c.grow-m.new.self c.fill-middle.new.self was part
+      exact = top_grown c.args.first c.args.last c.args.e c.args.self.now c.grow-m.result c.grow-m.new.self c.fill_middle.new.self was part
           c.grow-m.ensures.child c.grow-m.ensures.exact f.exact;
-      told = subst (λ (os : List Operation). Follows g.C.Counter.steps os c.args.counter.now c.fill-middle.new.counter)
+      told = subst (λ (os : List Operation). Follows g.C.Counter.steps os c.args.counter.now c.fill_middle.new.counter)
           (sym (told_top_grown c.args.first c.args.last c.args.e c.args.self.now c.args.core c.grow-m.result c.grow-m.new.self was part
           c.grow-m.ensures.child c.grow-m.ensures.exact))
           (follows_then g.C.Counter.steps (Revive c.args.core 1 ∷ []) _ _ _ _ (follows_one g.C.Counter.steps _ _ _ c.revive-in-Vacant.ensures.exact)
           (follows_then g.C.Counter.steps (Give c.grow-m.result ((c.args.last - 1) / 64 + 1 - c.args.first / 64) ∷ []) _ _ _ _ (follows_one g.C.Counter.steps _ _ _ c.give.ensures.exact) f.told));
       filled = filled_then c.args.first c.args.first c.args.last c.args.e _ _ _ (omega arith) (omega arith) (entered_filled _ _ _ _ _ _ _ i) f.filled;
       left = omega (arith, n, i.left, f.left);
-      others = top_inner_others _ _ _ c.args.e c.requires.sound c.requires.some c.requires.small c.requires.block _ _ i c.fill-middle.new.self f.others;
-      counted = but_held c.grow-m.result _ c.fill-middle.new.self f.counted (f.quiet refl ∙ gave.here ∙ ap Some (omega (arith, gain, blank)));
+      others = top_inner_others _ _ _ c.args.e c.requires.sound c.requires.some c.requires.small c.requires.block _ _ i c.fill_middle.new.self f.others;
+      counted = but_held c.grow-m.result _ c.fill_middle.new.self f.counted (f.quiet refl ∙ gave.here ∙ ap Some (omega (arith, gain, blank)));
       idle = f.idle;
       aside = aside_then _ _ _ (aside_then _ _ _ (raised_aside 1 (g.C.Counter.meaning c.args.counter.now) (g.C.Counter.meaning c.revive-in-Vacant.new.self) c.revive-in-Vacant.ensures.means)
           (given_aside c.grow-m.result ((c.args.last - 1) / 64 + 1 - c.args.first / 64) (g.C.Counter.meaning c.revive-in-Vacant.new.self) (g.C.Counter.meaning c.give.new.self) c.give.ensures.means)) f.aside;
@@ -179,15 +179,15 @@ returns-in-Child g c =
     let i = child_entered 1 (c.args.first / 4096) c.in-Child.m c.args.self.now c.requires.sound (omega arith) a in
     let n = inner_need c.args.self.now c.args.first c.args.last c.args.e c.requires.sound c.requires.some c.requires.small c.requires.block c.args.self.now c.in-Child.m i c.if-whole.ensures
     (root_open _ c.args.first (c.requires.free c.args.first (omega arith) c.requires.some)) in
-    let f = c.fill-middle-in-Child.ensures in
+    let f = c.fill_middle-in-Child.ensures in
     record {
       exact = f.exact ∙ sym (top_child c.args.first c.args.last c.args.e c.args.self.now c.in-Child.m a);
-      told = subst (λ (os : List Operation). Follows g.C.Counter.steps os c.args.counter.now c.fill-middle-in-Child.new.counter)
+      told = subst (λ (os : List Operation). Follows g.C.Counter.steps os c.args.counter.now c.fill_middle-in-Child.new.counter)
           (sym (told_top_child c.args.first c.args.last c.args.e c.args.self.now c.args.core c.in-Child.m a)) f.told;
       filled = f.filled;
       left = omega (arith, n, i.left, f.left);
-      others = top_inner_others _ _ _ c.args.e c.requires.sound c.requires.some c.requires.small c.requires.block _ _ i c.fill-middle-in-Child.new.self f.others;
-      counted = but_all c.in-Child.m _ c.fill-middle-in-Child.new.self f.counted;
+      others = top_inner_others _ _ _ c.args.e c.requires.sound c.requires.some c.requires.small c.requires.block _ _ i c.fill_middle-in-Child.new.self f.others;
+      counted = but_all c.in-Child.m _ c.fill_middle-in-Child.new.self f.counted;
       idle = f.idle;
       aside = f.aside;
     }
