@@ -5,7 +5,7 @@ use Rattle.script.specs.declared.answer.Reply.{Reply}
 use Rattle.statement.specs.Tables.{Tabled}
 use Rattle.statement.proofs.Tabling.{none_tabled, times_few, accepted_tabled, refused_tabled}
 use Rattle.statement.proofs.summary.refusals_by_number.Goals as goal
-use Rattle.statement.proofs.summary.refusals_by_number.Goals.{in-Err+in-ok-count_refusal, in-default}
+use Rattle.statement.proofs.summary.refusals_by_number.Goals.{in-Err+in-ok-count_refusal, in_default}
 
 pub loop-reply-init : goal.loop-reply-init
 loop-reply-init c = none_tabled c.new-refusals.ensures.keys c.new-refusals.ensures.vals
@@ -31,7 +31,7 @@ loop-reply-preserved c =
     elim c.match-reply.branch [
       | in-Err+in-ok-count_refusal w ↦
           subst (λ m. Tabled (take i xs ++ (r ∷ [])) m) (sym w.refusals-is) (refused_tabled old w.in-ok-count_refusal.ensures r w.in-Err.is)
-      | in-default w ↦ subst (λ m. Tabled (take i xs ++ (r ∷ [])) m) (sym w.refusals-is) (accepted_tabled r w.in-default.field-0 w.in-default.is old)
+      | in_default w ↦ subst (λ m. Tabled (take i xs ++ (r ∷ [])) m) (sym w.refusals-is) (accepted_tabled r w.in_default.field-0 w.in_default.is old)
     ]
     in
     subst (λ rs. Tabled rs c.match-reply.refusals) (sym (take_more xs i blank c.loop-reply-test.true)) after

@@ -3,16 +3,16 @@ use Rattle.bank.specs.declared.reload_entry.ReloadEntry.{ReloadEntry}
 use Rattle.bank.proofs.ReloadFound.{once_set, pages_set, alone_hit, others_hit, here_own, none_stays, displaces, replaced}
 use Rattle.bank.proofs.reload_row.ReloadRow.take.Goals as goal
 
-pub invariant-of-self : goal.invariant-of-self
-invariant-of-self c =
+pub invariant_of-self : goal.invariant_of-self
+invariant_of-self c =
     let r = c.args.self.now in
     let at = c.in-Some.ensures.1 in
     let u : ReloadEntry = record { page = c.args.page; frame = c.args.frame } in
     let alone = alone_hit r.entries c.in-Some.i at.0 c.args.page r.single at.1 at.2 in
     (search rules, (search rules, (once_set r.entries c.in-Some.i u r.single alone, (pages_set r.entries c.in-Some.i (Some u) 262144 r.pages c.requires, tt))))
 
-pub invariant-of-self-in-None : goal.invariant-of-self-in-None
-invariant-of-self-in-None c =
+pub invariant_of-self-in-None : goal.invariant_of-self-in-None
+invariant_of-self-in-None c =
     let r = c.args.self.now in
     let u : ReloadEntry = record { page = c.args.page; frame = c.args.frame } in
     let alone = none_stays r.entries r.turn None c.args.page c.in-None.ensures tt in

@@ -2,8 +2,8 @@ use Rattle.std.proofs.Common.{None, refl, arith, rules}
 use Rattle.bank.proofs.ReloadFound.{once_none, pages_set, alone_hit, others_hit, vacated}
 use Rattle.bank.proofs.reload_row.ReloadRow.vacate.Goals as goal
 
-pub invariant-of-self : goal.invariant-of-self
-invariant-of-self c =
+pub invariant_of-self : goal.invariant_of-self
+invariant_of-self c =
     let r = c.args.self.now in
     (search rules, (search rules, (once_none r.entries c.in-Some.i r.single, (pages_set r.entries c.in-Some.i None 262144 r.pages (search rules), tt))))
 

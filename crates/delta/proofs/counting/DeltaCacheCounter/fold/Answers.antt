@@ -11,8 +11,8 @@ fold-requires g c =
     let sound = open_sound (tables c.args.self.now) c.args.self.now.sound in
     record { core = omega (arith, sound.ready.cores, c.requires.serves); ready = sound.ready }
 
-pub invariant-of-self : goal.invariant-of-self
-invariant-of-self g c =
+pub invariant_of-self : goal.invariant_of-self
+invariant_of-self g c =
     let st = tables c.args.self.now in
     let sound = keeps_sound g.K.Kind.capacity g.K.Kind.revives st (state c.fold.new.self) (Fold c.args.core) g.met.K.Kind.small.1
     c.requires.serves c.fold.ensures (open_sound st c.args.self.now.sound) in

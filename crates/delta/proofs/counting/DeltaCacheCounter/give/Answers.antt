@@ -10,8 +10,8 @@ pub give-requires : goal.give-requires
 give-requires g c =
     record { object = omega (arith, c.requires.exists.1, g.met.K.Kind.small.1); few = c.requires.some.1 }
 
-pub invariant-of-self : goal.invariant-of-self
-invariant-of-self g c =
+pub invariant_of-self : goal.invariant_of-self
+invariant_of-self g c =
     let st = tables c.args.self.now in
     let sound = keeps_sound g.K.Kind.capacity g.K.Kind.revives st (state c.give.new.self) (Give c.args.object c.args.holders) g.met.K.Kind.small.1
     (c.requires.exists, c.requires.free, c.requires.some.0, c.requires.some.1) c.give.ensures (open_sound st c.args.self.now.sound) in

@@ -10,8 +10,8 @@ pub judge-requires : goal.judge-requires
 judge-requires g c =
     omega (arith, c.requires.exists.1, g.met.K.Kind.small.1)
 
-pub invariant-of-self : goal.invariant-of-self
-invariant-of-self g c =
+pub invariant_of-self : goal.invariant_of-self
+invariant_of-self g c =
     let st = tables c.args.self.now in
     let sound = keeps_sound g.K.Kind.capacity g.K.Kind.revives st (state c.judge.new.self) (Judge c.args.core c.args.object c.judge.result) g.met.K.Kind.small.1
     (c.requires.exists, c.requires.serves) c.judge.ensures (open_sound st c.args.self.now.sound) in

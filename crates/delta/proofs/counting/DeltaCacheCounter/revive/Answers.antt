@@ -11,8 +11,8 @@ revive-requires g c =
     let sound = open_sound (tables c.args.self.now) c.args.self.now.sound in
     record { core = omega (arith, sound.ready.cores, c.requires.serves); object = (c.requires.exists.0, omega (arith, c.requires.exists.1, g.met.K.Kind.small.1)); ready = sound.ready }
 
-pub invariant-of-self : goal.invariant-of-self
-invariant-of-self g c =
+pub invariant_of-self : goal.invariant_of-self
+invariant_of-self g c =
     let st = tables c.args.self.now in
     let sound = keeps_sound g.K.Kind.capacity g.K.Kind.revives st (state c.revive.new.self) (Revive c.args.core c.args.object) g.met.K.Kind.small.1
     (c.requires.exists, c.requires.serves, c.requires.used, c.requires.room, c.requires.allowed) c.revive.ensures (open_sound st c.args.self.now.sound) in

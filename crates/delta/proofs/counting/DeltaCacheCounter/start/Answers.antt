@@ -7,8 +7,8 @@ use Rattle.delta.specs.Means.{started_is}
 use Rattle.delta.specs.Onward.{started_time}
 use Rattle.delta.proofs.counting.DeltaCacheCounter.start.Goals as goal
 
-pub invariant-of-result : goal.invariant-of-result
-invariant-of-result g c =
+pub invariant_of-result : goal.invariant_of-result
+invariant_of-result g c =
     let sound = subst Sound (sym c.new.ensures) (started_sound c.args.cores c.args.epoch c.requires.few) in
     (∣ sound ∣₁, tt)
 

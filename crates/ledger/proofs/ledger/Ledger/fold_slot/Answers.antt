@@ -7,8 +7,8 @@ use Rattle.ledger.specs.View.{state}
 use Rattle.ledger.proofs.Folding.{shared_small, folds_some, folds_none}
 use Rattle.ledger.proofs.ledger.Ledger.fold_slot.Goals as goal
 
-pub returns-in-default : goal.returns-in-default
-returns-in-default c = folds_none c.args.core c.args.index (state c.args.self.now) (sym c.at-slot.ensures.value ∙ c.in-default.is)
+pub returns-in_default : goal.returns-in_default
+returns-in_default c = folds_none c.args.core c.args.index (state c.args.self.now) (sym c.at-slot.ensures.value ∙ c.in_default.is)
 
 pub fold-requires : goal.fold-requires
 fold-requires c = (shared_small (state c.args.self.now) c.requires.ready c.in-Some.delta.object, omega (arith, ints, c.in-Some.ensures.within))

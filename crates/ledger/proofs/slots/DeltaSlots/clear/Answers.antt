@@ -4,8 +4,8 @@ use Rattle.ledger.specs.Slots.{object_in, change_in}
 use Rattle.ledger.proofs.Sums.{each_set}
 use Rattle.ledger.proofs.slots.DeltaSlots.clear.Goals as goal
 
-pub invariant-of-self : goal.invariant-of-self
-invariant-of-self c =
+pub invariant_of-self : goal.invariant_of-self
+invariant_of-self c =
     let s = c.args.self.now in (
       each_set (λ k s. nat_abs (change_in s) ≤ 100) s.rows _ None None s.within (omega arith),
       (

@@ -4,8 +4,8 @@ use Rattle.ledger.specs.Slots.{object_in, change_in}
 use Rattle.ledger.proofs.Sums.{each_replicate}
 use Rattle.ledger.proofs.slots.DeltaSlots.new.Goals as goal
 
-pub invariant-of-result : goal.invariant-of-result
-invariant-of-result c = (
+pub invariant_of-result : goal.invariant_of-result
+invariant_of-result c = (
   each_replicate (λ k s. nat_abs (change_in s) ≤ 100) 256 None (λ k. omega arith),
   (
     each_replicate (λ k s. is_some s ≡ true → 1 ≤ object_in s) 256 None (λ k e. absurd (both_ways false refl e)),

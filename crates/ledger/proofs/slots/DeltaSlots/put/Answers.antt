@@ -3,8 +3,8 @@ use Rattle.ledger.specs.Slots.{object_in, change_in}
 use Rattle.ledger.proofs.Sums.{each_set}
 use Rattle.ledger.proofs.slots.DeltaSlots.put.Goals as goal
 
-pub invariant-of-self : goal.invariant-of-self
-invariant-of-self c =
+pub invariant_of-self : goal.invariant_of-self
+invariant_of-self c =
     let s = c.args.self.now in
     let new = Some c.args.delta in
     let fits = c.requires.1.1 in (

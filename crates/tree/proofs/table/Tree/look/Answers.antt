@@ -15,18 +15,18 @@ at-requires c = (
   omega arith,
 )
 
-pub returns-in-default : goal.returns-in-default
-returns-in-default c =
+pub returns-in_default : goal.returns-in_default
+returns-in_default c =
     let is = c.state.ensures
-    ∙ ap state_of (c.at-top.ensures ∙ sym (root_ends c.args.self.now.slots c.args.page (λ k e. c.in-default.not-Child k (c.at-top.ensures ∙ e)))) in
+    ∙ ap state_of (c.at-top.ensures ∙ sym (root_ends c.args.self.now.slots c.args.page (λ k e. c.in_default.not-Child k (c.at-top.ensures ∙ e)))) in
     record { is = is; proper = subst Proper (sym is) (proper_shown _ _ c.requires.sound.linked c.args.page c.requires.small) }
 
-pub returns-in-default-middle : goal.returns-in-default-middle
-returns-in-default-middle c =
-    let is = c.state-in-default-middle.ensures
+pub returns-in_default-middle : goal.returns-in_default-middle
+returns-in_default-middle c =
+    let is = c.state-in_default-middle.ensures
     ∙ ap state_of (c.at-middle.ensures
     ∙ sym (middle_ends c.args.self.now.slots c.args.page c.in-Child.m (sym c.in-Child.ensures)
-    (λ k e. c.in-default-middle.not-Child k (c.at-middle.ensures ∙ e)))) in
+    (λ k e. c.in_default-middle.not-Child k (c.at-middle.ensures ∙ e)))) in
     record { is = is; proper = subst Proper (sym is) (proper_shown _ _ c.requires.sound.linked c.args.page c.requires.small) }
 
 pub returns : goal.returns
