@@ -25,14 +25,14 @@ loop-i-preserved c =
     ∙ ap (λ (bs : List ℕ). reply_to bs (memory_state c.loop-i.memory)) cut ∙ ap (reply_to (record_at xs i)) inv.1 in
     let state = c.answer_record-reply.ensures.state
     ∙ ap (λ (bs : List ℕ). record_after bs (memory_state c.loop-i.memory)) cut ∙ ap (record_after (record_at xs i)) inv.1 in (
-      c.in-ok-push.ensures.items
+      c.in_ok-push.ensures.items
           ∙ ap (λ (rs : List Reply). rs ++ (c.answer_record-reply.result ∷ [])) inv.0
           ∙ ap (λ (r : Reply). replies_to xs i st ++ (r ∷ [])) reply ∙ sym (replies_more xs st i),
       state ∙ sym (state_more xs st i),
     )
 
-pub returns-in-err-push : goal.returns-in-err-push
-returns-in-err-push c =
+pub returns-in_err-push : goal.returns-in_err-push
+returns-in_err-push c =
     let p = err_from_is_err_and c.from_residual.result c.from_residual.ensures.1 in
     let failed : is_err c.from_residual.result ≡ true = rw p.1 refl in
     record { replies = IfOk-from_err c.from_residual.result _ failed; state = IfOk-from_err c.from_residual.result _ failed }

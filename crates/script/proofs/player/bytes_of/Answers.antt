@@ -14,7 +14,7 @@ loop-reply-preserved c =
     let xs = c.args.replies.now in
     let i = c.loop-reply.reply-index in
     let blank : Reply = record { kind = 0; core = 0; outcome = Ok 0; epoch = 0 } in
-    c.in-ok-extend_from_slice.ensures.items
+    c.in_ok-extend_from_slice.ensures.items
     ∙ ap (λ (bs : List ℕ). bs ++ c.write.result) c.loop-reply.invariant
     ∙ ap (λ (bs : List ℕ). all_bytes (take i xs) ++ bs) c.write.ensures.value
     ∙ sym (bytes_more (take i xs) (get_or xs i blank))

@@ -5,7 +5,7 @@ use Rattle.script.specs.declared.answer.Reply.{Reply}
 use Rattle.statement.specs.Tables.{Tabled}
 use Rattle.statement.proofs.Tabling.{none_tabled, times_few, accepted_tabled, refused_tabled}
 use Rattle.statement.proofs.summary.refusals_by_number.Goals as goal
-use Rattle.statement.proofs.summary.refusals_by_number.Goals.{in-Err+in-ok-count_refusal, in_default}
+use Rattle.statement.proofs.summary.refusals_by_number.Goals.{in-Err+in_ok-count_refusal, in_default}
 
 pub loop-reply-init : goal.loop-reply-init
 loop-reply-init c = none_tabled c.new-refusals.ensures.keys c.new-refusals.ensures.vals
@@ -29,8 +29,8 @@ loop-reply-preserved c =
     let old = c.loop-reply.invariant in
     let after : Tabled (take i xs ++ (r ∷ [])) c.match-reply.refusals =
     elim c.match-reply.branch [
-      | in-Err+in-ok-count_refusal w ↦
-          subst (λ m. Tabled (take i xs ++ (r ∷ [])) m) (sym w.refusals-is) (refused_tabled old w.in-ok-count_refusal.ensures r w.in-Err.is)
+      | in-Err+in_ok-count_refusal w ↦
+          subst (λ m. Tabled (take i xs ++ (r ∷ [])) m) (sym w.refusals-is) (refused_tabled old w.in_ok-count_refusal.ensures r w.in-Err.is)
       | in_default w ↦ subst (λ m. Tabled (take i xs ++ (r ∷ [])) m) (sym w.refusals-is) (accepted_tabled r w.in_default.field-0 w.in_default.is old)
     ]
     in

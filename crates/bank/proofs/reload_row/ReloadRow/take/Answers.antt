@@ -9,14 +9,24 @@ invariant_of-self c =
     let at = c.in-Some.ensures.1 in
     let u : ReloadEntry = record { page = c.args.page; frame = c.args.frame } in
     let alone = alone_hit r.entries c.in-Some.i at.0 c.args.page r.single at.1 at.2 in
-    (search rules, (search rules, (once_set r.entries c.in-Some.i u r.single alone, (pages_set r.entries c.in-Some.i (Some u) 262144 r.pages c.requires, tt))))
+    record {
+      full = search rules;
+      within = search rules;
+      single = once_set r.entries c.in-Some.i u r.single alone;
+      pages = pages_set r.entries c.in-Some.i (Some u) 262144 r.pages c.requires;
+    }
 
 pub invariant_of-self-in-None : goal.invariant_of-self-in-None
 invariant_of-self-in-None c =
     let r = c.args.self.now in
     let u : ReloadEntry = record { page = c.args.page; frame = c.args.frame } in
     let alone = none_stays r.entries r.turn None c.args.page c.in-None.ensures tt in
-    (search rules, (search rules, (once_set r.entries r.turn u r.single alone, (pages_set r.entries r.turn (Some u) 262144 r.pages c.requires, tt))))
+    record {
+      full = search rules;
+      within = search rules;
+      single = once_set r.entries r.turn u r.single alone;
+      pages = pages_set r.entries r.turn (Some u) 262144 r.pages c.requires;
+    }
 
 pub returns-in-Some : goal.returns-in-Some
 returns-in-Some c =

@@ -5,7 +5,12 @@ use Rattle.bank.proofs.reload_row.ReloadRow.vacate.Goals as goal
 pub invariant_of-self : goal.invariant_of-self
 invariant_of-self c =
     let r = c.args.self.now in
-    (search rules, (search rules, (once_none r.entries c.in-Some.i r.single, (pages_set r.entries c.in-Some.i None 262144 r.pages (search rules), tt))))
+    record {
+      full = search rules;
+      within = search rules;
+      single = once_none r.entries c.in-Some.i r.single;
+      pages = pages_set r.entries c.in-Some.i None 262144 r.pages (search rules);
+    }
 
 pub returns-in-Some : goal.returns-in-Some
 returns-in-Some c =

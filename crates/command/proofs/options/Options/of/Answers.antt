@@ -26,9 +26,9 @@ loop-word-preserved c =
     let rest = into_iter_items c.next.new.self in
     let short = other_text (string_bytes w) _ (codes "--brief") _ c.as_str.ensures.value c.eq.ensures c.if-eq.false in
     let flag = ap is_flag (sym c.as_str-else-eq.ensures.value) ∙ sym c.is_flag.ensures ∙ c.if-is_flag.false in
-    let more = c.in-ok-named.ensures ∙ ap (one_more ps) c.named.ensures in
+    let more = c.in_ok-named.ensures ∙ ap (one_more ps) c.named.ensures in
     turn ps b w rest _ c.in-Some.ensures.steps.0 c.loop-word.invariant
-    (next_word ps b (string_bytes w) (map string_bytes rest) (places_of c.in-ok-named.named) short flag more)
+    (next_word ps b (string_bytes w) (map string_bytes rest) (places_of c.in_ok-named.named) short flag more)
 
 pub returns : goal.returns
 returns c =
@@ -53,15 +53,15 @@ returns-then-is_flag c =
     turn ps b w rest _ c.in-Some.ensures.steps.0 c.loop-word.invariant (flag_word ps b (string_bytes w) (map string_bytes rest) short flag)
     ∙ ap (λ (xs : List (String Global)). wished (map string_bytes xs)) c.into_iter-word-iterator.ensures.into_iter-gives.0
 
-pub returns-in-err-named : goal.returns-in-err-named
-returns-in-err-named c =
+pub returns-in_err-named : goal.returns-in_err-named
+returns-in_err-named c =
     let b = c.loop-word.brief in
     let ps = places_of c.loop-word.named in
     let w = c.in-Some.word in
     let rest = into_iter_items c.next.new.self in
     let short = other_text (string_bytes w) _ (codes "--brief") _ c.as_str.ensures.value c.eq.ensures c.if-eq.false in
     let flag = ap is_flag (sym c.as_str-else-eq.ensures.value) ∙ sym c.is_flag.ensures ∙ c.if-is_flag.false in
-    let more = ap places_read (sym c.in-err-named.was) ∙ c.with.ensures ∙ ap (one_more ps) c.named.ensures in
+    let more = ap places_read (sym c.in_err-named.was) ∙ c.with.ensures ∙ ap (one_more ps) c.named.ensures in
     refusal_read c.from_residual.result c.from_residual.ensures.0
     ∙ turn ps b w rest _ c.in-Some.ensures.steps.0 c.loop-word.invariant (third_word ps b (string_bytes w) (map string_bytes rest) short flag more)
     ∙ ap (λ (xs : List (String Global)). wished (map string_bytes xs)) c.into_iter-word-iterator.ensures.into_iter-gives.0

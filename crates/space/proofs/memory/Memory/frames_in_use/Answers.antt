@@ -5,5 +5,5 @@ use Rattle.space.proofs.memory.Memory.frames_in_use.Goals as goal
 pub free-requires : goal.free-requires
 free-requires c = (omega arith, (opened c.args.self.now.sound).frames)
 
-pub overflow-sub-result : goal.overflow-sub-result
-overflow-sub-result c = let ok = (opened c.args.self.now.sound).frames in omega (arith, c.free.ensures, ok.less, ok.past)
+pub overflow_sub-result : goal.overflow_sub-result
+overflow_sub-result c = let ok = (opened c.args.self.now.sound).frames in omega (arith, c.free.ensures, ok.less, ok.past)

@@ -20,7 +20,7 @@ check_map-requires g c = record { sound = (opened c.requires.sound).tree }
 pub fill-requires : goal.fill-requires
 fill-requires g c =
     let ok = opened c.requires.sound in
-    let e = sym c.check_map.ensures ∙ c.in-ok-check_map.was in
+    let e = sym c.check_map.ensures ∙ c.in_ok-check_map.was in
     let n = some c.args.core c.args.label c.args.first c.args.count c.args.self.now.cores c.args.self.now.tree ok.tree e in
     record {
       sound = ok.tree;
@@ -39,7 +39,7 @@ returns g c =
     let f = c.fill.ensures in
     let m = c.fresh.ensures in
     let passes : map_check c.args.core c.args.label c.args.first c.args.count c.args.self.now.cores c.args.self.now.tree ≡ Ok tt =
-    sym c.check_map.ensures ∙ c.in-ok-check_map.was in
+    sym c.check_map.ensures ∙ c.in_ok-check_map.was in
     let tree = f.exact ∙ ap (λ (e : Mapping). fill c.args.first (c.args.first + c.args.count) e c.args.self.now.tree) m in
     record {
       answer = sym (ap (λ (x : Check). answer x 0) passes);
