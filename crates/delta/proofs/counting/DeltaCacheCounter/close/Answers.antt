@@ -16,7 +16,7 @@ invariant_of-self g c =
     let st = tables c.args.self.now in
     let sound = keeps_sound g.K.Kind.capacity g.K.Kind.revives st (state c.close.new.self) (Close c.args.core) g.met.K.Kind.small.1
     (c.requires.serves, c.requires.folded, c.requires.later) c.close.ensures (open_sound st c.args.self.now.sound) in
-    (∣ sound ∣₁, tt)
+    record { sound = ∣ sound ∣₁ }
 
 pub returns : goal.returns
 returns g c =

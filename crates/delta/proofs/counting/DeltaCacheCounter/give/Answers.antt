@@ -15,7 +15,7 @@ invariant_of-self g c =
     let st = tables c.args.self.now in
     let sound = keeps_sound g.K.Kind.capacity g.K.Kind.revives st (state c.give.new.self) (Give c.args.object c.args.holders) g.met.K.Kind.small.1
     (c.requires.exists, c.requires.free, c.requires.some.0, c.requires.some.1) c.give.ensures (open_sound st c.args.self.now.sound) in
-    (∣ sound ∣₁, tt)
+    record { sound = ∣ sound ∣₁ }
 
 pub returns : goal.returns
 returns g c =

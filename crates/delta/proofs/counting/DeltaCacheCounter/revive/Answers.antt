@@ -16,7 +16,7 @@ invariant_of-self g c =
     let st = tables c.args.self.now in
     let sound = keeps_sound g.K.Kind.capacity g.K.Kind.revives st (state c.revive.new.self) (Revive c.args.core c.args.object) g.met.K.Kind.small.1
     (c.requires.exists, c.requires.serves, c.requires.used, c.requires.room, c.requires.allowed) c.revive.ensures (open_sound st c.args.self.now.sound) in
-    (∣ sound ∣₁, tt)
+    record { sound = ∣ sound ∣₁ }
 
 pub returns : goal.returns
 returns g c =

@@ -10,7 +10,7 @@ use Rattle.delta.proofs.counting.DeltaCacheCounter.start.Goals as goal
 pub invariant_of-result : goal.invariant_of-result
 invariant_of-result g c =
     let sound = subst Sound (sym c.new.ensures) (started_sound c.args.cores c.args.epoch c.requires.few) in
-    (∣ sound ∣₁, tt)
+    record { sound = ∣ sound ∣₁ }
 
 pub returns : goal.returns
 returns g c =
