@@ -2,8 +2,7 @@
 use Rattle.std.proofs.Common.{◌≡◌, ℕ, ◌+◌, ◌≤◌, Bool, true, false, cond, eqb, List, [], ◌∷◌, ◌++◌, length, IfSome, Some, None, Ok, Err, Option, sym, refl, ap, ◌∙◌, subst, arith, eqb-true}
 use borrow.Author.Tests.{eqb-false}
 use Rattle.std.specs.BTreeMap.{BTreeMap}
-use Rattle.std.specs.BTreeMap.{keys, values}
-use Rattle.std.proofs.lemmas.Map.Contents.{btree-map-empty}
+use Rattle.std.specs.BTreeMap.{IsOrdered, IsEmpty}
 use Rattle.model.specs.declared.fault.Fault.{Fault}
 use Rattle.model.specs.Faults.{number_of}
 use Rattle.script.specs.declared.answer.Reply.{Reply}
@@ -32,14 +31,14 @@ refused_few n [] = omega arith
 refused_few n (r ∷ rs) = omega (arith, refused_few n rs, one_few (faults_as n r.outcome))
 
 module _ {m : BTreeMap ℕ Refusals} where
-  pub none_tabled : keys m ≡ [] → values m ≡ [] → Tabled [] m
+  pub none_tabled : IsEmpty m → IsOrdered nat_cmp m → Tabled [] m
   unfolding refused_as
-  none_tabled ks vs =
-      let empty = btree-map-empty nat_cmp m ks vs in
+  none_tabled empty ordered =
+      let none : (n : ℕ) → entry_at m n ≡ None = λ n. rw empty refl in
       record {
-        ordered = empty.0;
-        counts = λ n. ap times_in (empty.1 n);
-        alike = λ n. subst (λ o. IfSome o (λ e. number_of e.fault ≡ n)) (sym (empty.1 n)) tt;
+        ordered = ordered;
+        counts = λ n. ap times_in (none n);
+        alike = λ n. subst (λ o. IfSome o (λ e. number_of e.fault ≡ n)) (sym (none n)) tt;
       }
 
   pub times_few : {rs : List Reply} (n : ℕ) → Tabled rs m → times_in (entry_at m n) ≤ length rs

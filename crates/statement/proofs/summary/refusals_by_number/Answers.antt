@@ -8,7 +8,7 @@ use Rattle.statement.proofs.summary.refusals_by_number.Goals as goal
 use Rattle.statement.proofs.summary.refusals_by_number.Goals.{in-Err+in_ok-count_refusal, in_default}
 
 pub loop-reply-init : goal.loop-reply-init
-loop-reply-init c = none_tabled c.new-refusals.ensures.keys c.new-refusals.ensures.vals
+loop-reply-init c = none_tabled c.new-refusals.ensures.empty c.new-refusals.ensures.ordered
 
 pub count_refusal-requires : goal.count_refusal-requires
 count_refusal-requires c =
