@@ -64,8 +64,8 @@ third_word (p ∷ (q ∷ ps)) b w ws short flag more =
     ∙ sym (named_word (p ∷ (q ∷ ps)) b w ws short flag)
 
 -- what a comparison that failed says of the test by bytes
-pub other_text : (w v ys : List ℕ) (r : Bool) → v ≡ w → Decides r (v ≡ ys) → r ≡ false → bytes_eq w ys ≡ false
-other_text w v ys r same h e = let t : bytes_eq v ys ≡ false = search (rules, bytes_eq-Decides) in rw same at t
+pub other_text : (w v ys : List ℕ) (r : Bool) → v ≡ w → r ≡ bytes_eq v ys → r ≡ false → bytes_eq w ys ≡ false
+other_text w v ys r same h e = let t : bytes_eq v ys ≡ false = sym h ∙ e in rw same at t
 
 -- a refusal asks for nothing
 pub refusal_read : (r : Result Options Misuse) → is_err r ≡ true → wish_read r ≡ None

@@ -16,7 +16,6 @@ count_refusal-requires c =
     let i = c.loop-reply.reply-index in
     let xs = c.args.replies.now in
     record {
-      ordered = old.ordered;
       room = omega (arith, times_few (number_of c.in-Err.fault) old, length-take i xs);
     }
 
