@@ -17,17 +17,17 @@ abbrev pub clock_folds : ℕ → Clock → Clock
 clock_folds c k = record { cores = k.cores; epoch = k.epoch; folded = record { bits = bit_or k.folded.bits (2 ^ c) }; closed = k.closed }
 
 -- the core has closed
-abbrev pub mark_closed : ℕ → Clock → Clock
-mark_closed c k = record { cores = k.cores; epoch = k.epoch; folded = k.folded; closed = record { bits = bit_or k.closed.bits (2 ^ c) } }
+abbrev pub clock_marked : ℕ → Clock → Clock
+clock_marked c k = record { cores = k.cores; epoch = k.epoch; folded = k.folded; closed = record { bits = bit_or k.closed.bits (2 ^ c) } }
 
 -- the next epoch
-abbrev pub turned : Clock → Clock
-turned k = clock_started k.cores (k.epoch + 1)
+abbrev pub clock_turned : Clock → Clock
+clock_turned k = clock_started k.cores (k.epoch + 1)
 
 -- whether the core is the last one to close
 abbrev pub last_to_close : ℕ → Clock → Bool
-last_to_close c k = all_below k.cores (member (mark_closed c k).closed.bits)
+last_to_close c k = all_below k.cores (member (clock_marked c k).closed.bits)
 
 -- the core has closed, and with the last core in service the epoch grows
 abbrev pub clock_closes : ℕ → Clock → Clock
-clock_closes c k = cond (last_to_close c k) (turned k) (mark_closed c k)
+clock_closes c k = cond (last_to_close c k) (clock_turned k) (clock_marked c k)

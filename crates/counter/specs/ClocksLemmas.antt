@@ -6,7 +6,7 @@ use Rattle.model.specs.CoreSets.{member, all_below}
 use Rattle.model.proofs.Sets.{none_member, join_member}
 use Rattle.counter.specs.declared.epoch.Clock.{Clock}
 use Rattle.counter.specs.Meaning.{Meaning, put_at, with_holders, begun, has_folded, has_closed, next_epoch, closes}
-use Rattle.counter.specs.Clocks.{clock_meaning, clock_started, clock_folds, mark_closed, turned, last_to_close, clock_closes}
+use Rattle.counter.specs.Clocks.{clock_meaning, clock_started, clock_folds, clock_marked, clock_turned, last_to_close, clock_closes}
 
 or_cond : (s t : Bool) → (s || t) ≡ cond t true s
 or_cond true true = refl
@@ -32,13 +32,13 @@ folds_means c k f =
     let with_folded : (ℕ → Bool) → Meaning = λ g. record { cores = k.cores; epoch = k.epoch; holders = f; folded = g; closed = member k.closed.bits } in
     ap with_folded (marked k.folded.bits c)
 
-mark_means : (c : ℕ) (k : Clock) (f : ℕ → Option ℕ) → clock_meaning (mark_closed c k) f ≡ has_closed c (clock_meaning k f)
+mark_means : (c : ℕ) (k : Clock) (f : ℕ → Option ℕ) → clock_meaning (clock_marked c k) f ≡ has_closed c (clock_meaning k f)
 mark_means c k f =
     let with_closed : (ℕ → Bool) → Meaning = λ g. record { cores = k.cores; epoch = k.epoch; holders = f; folded = member k.folded.bits; closed = g } in
     ap with_closed (marked k.closed.bits c)
 
 either_means : (b : Bool) (c : ℕ) (k : Clock) (f : ℕ → Option ℕ) →
-    clock_meaning (cond b (turned k) (mark_closed c k)) f ≡ cond b (next_epoch (clock_meaning k f)) (has_closed c (clock_meaning k f))
+    clock_meaning (cond b (clock_turned k) (clock_marked c k)) f ≡ cond b (next_epoch (clock_meaning k f)) (has_closed c (clock_meaning k f))
 either_means true c k f = started_means k.cores (k.epoch + 1) f
 either_means false c k f = mark_means c k f
 

@@ -9,8 +9,7 @@ use Rattle.counter.specs.Meaning.Operation.{Give, Up, Down, Revive, Fold, Judge,
 use Rattle.counter.specs.Operations.{Object, Allowed, Does}
 use Rattle.counter.specs.Timeline.{Timeline, note_loss, note_judgement, note_epoch, noted, InTurn, Swept}
 use Rattle.counter.specs.declared.epoch.Clock.{Clock}
-use Rattle.counter.specs.Clocks.{clock_meaning, clock_closes}
-use Rattle.counter.specs.Clocks as clocks
+use Rattle.counter.specs.Clocks.{clock_meaning, clock_turned, clock_marked, clock_closes}
 use Rattle.counter.specs.Plain.{Table, count_at, table_meaning, unheld, put_count, turned, mark_closed, table_after, TableSteps, SoonJudged, TableTimely}
 use Rattle.counter.specs.ClocksLemmas.{folds_means, closes_means, last_means}
 use Rattle.counter.specs.Meanings.{put_here, put_elsewhere, put_is, none_not, some_is, judged_other}
@@ -20,8 +19,8 @@ abbrev pub clock_of : Table → Clock
 clock_of t = record { cores = t.cores; epoch = t.epoch; folded = record { bits = t.folded }; closed = record { bits = t.closed } }
 
 -- whether the core is the last one to close
-abbrev pub last_to_close : ℕ → Table → Bool
-last_to_close c t = all_below t.cores (member (mark_closed c t).closed)
+abbrev pub last_core_closes : ℕ → Table → Bool
+last_core_closes c t = all_below t.cores (member (mark_closed c t).closed)
 
 -- a table in which one count was written
 count_here : (o : ℕ) (x : Option ℕ) (t : Table) → o < length t.counts → count_at (put_count o x t) o ≡ x
@@ -46,7 +45,7 @@ held_not x e z = both_ways (unheld x) (sym e) (ap unheld z)
 -- The meaning
 
 closing_means : (last : Bool) (c : ℕ) (t : Table) →
-    table_meaning (cond last (turned t) (mark_closed c t)) ≡ clock_meaning (cond last (clocks.turned (clock_of t)) (clocks.mark_closed c (clock_of t))) (count_at t)
+    table_meaning (cond last (turned t) (mark_closed c t)) ≡ clock_meaning (cond last (clock_turned (clock_of t)) (clock_marked c (clock_of t))) (count_at t)
 closing_means true c t = refl
 closing_means false c t = refl
 
@@ -60,7 +59,7 @@ plain_means capacity revives t u (Fold c) room may step = ap table_meaning step.
 plain_means capacity revives t u (Judge c o true) room may step =
     (unheld_is (count_at t o) step.answer, ap table_meaning step.table ∙ count_means o None t (omega (arith, may.0.1)))
 plain_means capacity revives t u (Judge c o false) room may step = ap table_meaning step.table
-plain_means capacity revives t u (Close c) room may step = ap table_meaning step.table ∙ closing_means (last_to_close c t) c t ∙ closes_means c (clock_of t) (count_at t)
+plain_means capacity revives t u (Close c) room may step = ap table_meaning step.table ∙ closing_means (last_core_closes c t) c t ∙ closes_means c (clock_of t) (count_at t)
 
 -- The time
 
@@ -141,4 +140,4 @@ plain_onward capacity revives t u (Judge c o dead) p room may step turn timely =
 plain_onward capacity revives t u (Close c) p room may step turn timely =
     subst (λ (v : Table). TableTimely capacity v (noted (Close c) (table_meaning t) p)) (sym step.table)
     (subst (λ (b : Bool). TableTimely capacity (table_after (Close c) t) (cond b (note_epoch p) p)) (last_means c (clock_of t) (count_at t))
-    (close_timely capacity c (last_to_close c t) t p turn timely))
+    (close_timely capacity c (last_core_closes c t) t p turn timely))

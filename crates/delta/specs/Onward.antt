@@ -7,7 +7,7 @@ use Rattle.counter.specs.Meaning.{Meaning, how_many, put_at, has_folded, freed, 
 use Rattle.counter.specs.Meaning.Operation.{Give, Up, Down, Revive, Fold, Judge, Close}
 use Rattle.counter.specs.Operations.{Object, Allowed, Does}
 use Rattle.counter.specs.Timeline.{Timeline, note_loss, note_judgement, note_epoch, noted, InTurn, Swept}
-use Rattle.counter.specs.Clocks.{clock_meaning, mark_closed, turned, last_to_close, clock_closes}
+use Rattle.counter.specs.Clocks.{clock_meaning, clock_marked, clock_turned, last_to_close, clock_closes}
 use Rattle.counter.specs.ClocksLemmas.{last_means}
 use Rattle.counter.specs.Meanings.{put_here, put_elsewhere, none_not, some_is, judged_other}
 use Rattle.ledger.specs.declared.slot.Move.{Move}
@@ -158,7 +158,7 @@ judge_onward core x dead st o e p known sound is on =
 
 close_onward : (core : ℕ) (st : State) (o e : ℕ) (judged : ℕ → ℕ → Bool) (last : Bool) → 1 ≤ o → Sound st → last ≡ last_to_close core st.clock →
     Rattle.model.specs.CoreSets.member st.clock.folded.bits core ≡ true → judged core o ≡ true →
-    Punctual st o e (λ c. judged c o) → Punctual (put_clock (cond last (turned st.clock) (mark_closed core st.clock)) st) o e (λ c. cond last (λ _ _. false) judged c o)
+    Punctual st o e (λ c. judged c o) → Punctual (put_clock (cond last (clock_turned st.clock) (clock_marked core st.clock)) st) o e (λ c. cond last (λ _ _. false) judged c o)
 close_onward core st o e judged false some sound is f mine p = record {
   timed = closed_timed core st.clock (record_at st o) (p.seen core mine) p.timed;
   seen = p.seen;
@@ -172,7 +172,7 @@ close_onward core st o e judged true some sound is f mine p = record {
 
 close_timeline : (core : ℕ) (last : Bool) (st : State) (o : ℕ) (p : Timeline) → 1 ≤ o → Sound st → last ≡ last_to_close core st.clock →
     Rattle.model.specs.CoreSets.member st.clock.folded.bits core ≡ true → p.judged core o ≡ true → Punctual st o (p.since o) (λ c. p.judged c o) →
-    Punctual (put_clock (cond last (turned st.clock) (mark_closed core st.clock)) st) o ((cond last (note_epoch p) p).since o) (λ c. (cond last (note_epoch p) p).judged c o)
+    Punctual (put_clock (cond last (clock_turned st.clock) (clock_marked core st.clock)) st) o ((cond last (note_epoch p) p).since o) (λ c. (cond last (note_epoch p) p).judged c o)
 close_timeline core true st o p some sound is f mine on = close_onward core st o (p.since o) p.judged true some sound is f mine on
 close_timeline core false st o p some sound is f mine on = close_onward core st o (p.since o) p.judged false some sound is f mine on
 

@@ -6,7 +6,7 @@ use Rattle.std.proofs.lemmas.Bool.{eqb-true, le-leb, and_parts, and_from, or_cas
 use Rattle.model.specs.CoreSets.{member}
 use Rattle.model.proofs.Sets.{none_member, all_each}
 use Rattle.counter.specs.declared.epoch.Clock.{Clock}
-use Rattle.counter.specs.Clocks.{clock_folds, mark_closed, turned, last_to_close, clock_closes}
+use Rattle.counter.specs.Clocks.{clock_folds, clock_marked, clock_turned, last_to_close, clock_closes}
 use Rattle.ledger.specs.declared.slot.Delta.{Delta}
 use Rattle.ledger.specs.declared.slot.Move.{Move}
 use Rattle.ledger.specs.declared.record.Record.{Record}
@@ -129,7 +129,7 @@ judge_sees core o st lt =
     subst (Seen st.clock core) (sym (record_here o (after_judge core st.clock.epoch (record_at st o)) st lt)) (judged_seen core st.clock (record_at st o))
 
 -- a core closes that need not judge the object again
-pub closed_timed : (core : ℕ) (k : Clock) (r : Record) → Seen k core r → Timed k r → Timed (mark_closed core k) r
+pub closed_timed : (core : ℕ) (k : Clock) (r : Record) → Seen k core r → Timed k r → Timed (clock_marked core k) r
 closed_timed core k r seen t = record {
   past = t.past;
   soon = t.soon;
@@ -141,7 +141,7 @@ closed_timed core k r seen t = record {
 }
 
 -- the last core closes
-pub turned_timed : (core : ℕ) (k : Clock) (r : Record) → last_to_close core k ≡ true → Timed (mark_closed core k) r → Timed (turned k) r
+pub turned_timed : (core : ℕ) (k : Clock) (r : Record) → last_to_close core k ≡ true → Timed (clock_marked core k) r → Timed (clock_turned k) r
 turned_timed core k r last t = record {
   past = λ e. omega (arith, t.past e);
   soon = λ e. some_on r.list e _ (λ c on. omega (arith, t.shut c on (all_each k.cores _ last c (t.served c on))));
@@ -261,12 +261,12 @@ due_judge core x st o e lt t z u d =
     (cases_eq o x)
 
 -- a core closes
-pub due_closed : (core : ℕ) (st : State) (o e : ℕ) → Due st o e → Due (put_clock (mark_closed core st.clock) st) o e
+pub due_closed : (core : ℕ) (st : State) (o e : ℕ) → Due st o e → Due (put_clock (clock_marked core st.clock) st) o e
 due_closed core st o e d = record { next = d.next; gone = d.gone; early = d.early; first = d.first }
 
 -- the epoch grows, once every core in service has folded
 pub due_turned : (st : State) (o e : ℕ) → 1 ≤ o → Sound st → ((c : ℕ) → c < st.clock.cores → member st.clock.folded.bits c ≡ true) →
-    Timed st.clock (record_at st o) → holders_in st o ≡ Some 0 → Due st o e → Due (put_clock (turned st.clock) st) o e
+    Timed st.clock (record_at st o) → holders_in st o ≡ Some 0 → Due st o e → Due (put_clock (clock_turned st.clock) st) o e
 due_turned st o e some sound all t z d =
     let epoch = st.clock.epoch in
     let r = record_at st o in

@@ -7,7 +7,7 @@ use Rattle.std.proofs.lemmas.Bool.{eq-eqb, ne_eqb, eqb-true, leb-true, le-leb, a
 use Rattle.model.specs.CoreSets.{member, all_below}
 use Rattle.model.proofs.Sets.{none_member, join_member, all_each}
 use Rattle.counter.specs.declared.epoch.Clock.{Clock}
-use Rattle.counter.specs.Clocks.{clock_started, clock_folds, mark_closed, turned, last_to_close, clock_closes}
+use Rattle.counter.specs.Clocks.{clock_started, clock_folds, clock_marked, clock_turned, last_to_close, clock_closes}
 use Rattle.ledger.specs.declared.slot.Delta.{Delta}
 use Rattle.ledger.specs.declared.slot.Move.{Move}
 use Rattle.ledger.specs.declared.record.Record.{Record}
@@ -373,7 +373,7 @@ fold_all_sound core st hc sound =
     (folded_sound core (fold_first core 16 st) (λ j lt. first_empties core 16 j st hc (omega arith) lt sound.ready) (first_sound core 16 st hc (omega arith) sound))
 
 -- who has folded since the listing when the epoch has grown had done so before
-since_turned : (k : Clock) (r : Record) (c : ℕ) → member k.folded.bits c ≡ true → folded_since (turned k) r c ≡ true → folded_since k r c ≡ true
+since_turned : (k : Clock) (r : Record) (c : ℕ) → member k.folded.bits c ≡ true → folded_since (clock_turned k) r c ≡ true → folded_since k r c ≡ true
 unfolding folded_since
 since_turned k r c f h =
     ⊎_elim
@@ -395,13 +395,13 @@ all_folded core st sound f last c lt =
     (λ (ne : c ≢ core). sound.after c (sym (joined_other st.clock.closed.bits core c ne) ∙ all_each st.clock.cores _ last c lt))
     (cases_eq c core)
 
-since_closed : (core : ℕ) (k : Clock) (r : Record) (c : ℕ) → folded_since (mark_closed core k) r c ≡ folded_since k r c
+since_closed : (core : ℕ) (k : Clock) (r : Record) (c : ℕ) → folded_since (clock_marked core k) r c ≡ folded_since k r c
 unfolding folded_since
 since_closed core k r c = refl
 
 pub close_sound : (core : ℕ) (st : State) → Sound st → member st.clock.folded.bits core ≡ true → Sound (put_clock (clock_closes core st.clock) st)
 close_sound core st sound f =
-    cond_both (last_to_close core st.clock) (turned st.clock) (mark_closed core st.clock) (λ (k : Clock). Sound (put_clock k st))
+    cond_both (last_to_close core st.clock) (clock_turned st.clock) (clock_marked core st.clock) (λ (k : Clock). Sound (put_clock k st))
     (λ last. record {
       ready = record {
         room = sound.ready.room;
