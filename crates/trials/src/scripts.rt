@@ -13,13 +13,13 @@ const SEEN: [u8; 16] = [8, 0, 0, 0, 255, 255, 255, 255, 0, 0, 0, 0, 0, 0, 0, 0];
 #[test]
 fn every_length_is_answered(rt: HostRuntime) -> Result<(), Fail> {
     let heap = rt.alloc();
-    assert_eq!(rt; answers_to(heap, &LOOK[0..0])?.as_slice(), &[]);
-    assert_eq!(rt; answers_to(heap, &LOOK[0..1])?.as_slice(), &REST);
-    assert_eq!(rt; answers_to(heap, &LOOK[0..15])?.as_slice(), &REST);
-    assert_eq!(rt; answers_to(heap, &LOOK[0..16])?.as_slice(), &SEEN);
+    assert_eq!(rt; answers_to(heap, &LOOK[0..0])?.as_slice(), [].as_slice());
+    assert_eq!(rt; answers_to(heap, &LOOK[0..1])?.as_slice(), REST.as_slice());
+    assert_eq!(rt; answers_to(heap, &LOOK[0..15])?.as_slice(), REST.as_slice());
+    assert_eq!(rt; answers_to(heap, &LOOK[0..16])?.as_slice(), SEEN.as_slice());
     let both = answers_to(heap, &LOOK)?;
     assert!(rt; both.len() == 32);
-    assert_eq!(rt; &both[0..16], &SEEN);
-    assert_eq!(rt; &both[16..32], &REST);
+    assert_eq!(rt; &both[0..16], SEEN.as_slice());
+    assert_eq!(rt; &both[16..32], REST.as_slice());
     Ok(())
 }
