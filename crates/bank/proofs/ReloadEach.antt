@@ -1,7 +1,7 @@
-use Rattle.std.proofs.Common.{◌≡◌, ℕ, zero, suc, ◌<◌, ◌≢◌, ◌⊎◌, List, [], ◌∷◌, map, length, get_or, set, replicate, Some, None, Option, refl, inl, inr, arith}
+use Rattle.std.proofs.Common.{◌≡◌, ℕ, zero, suc, ◌<◌, ◌≢◌, ◌⊎◌, List, [], ◌∷◌, length, get_or, set, replicate, Some, None, Option, refl, inl, inr, arith}
 use Rattle.std.proofs.lemmas.List.{get_or-map}
 use Rattle.std.proofs.lemmas.Bool.{cases_eq}
-use Rattle.bank.specs.Meaning.{Dropped, Apart, Empty}
+use Rattle.bank.specs.Meaning.{Dropped, Empty}
 use Rattle.bank.specs.declared.reload_entry.ReloadEntry.{ReloadEntry}
 use Rattle.bank.specs.declared.reload_row.ReloadRow.{ReloadRow}
 use Rattle.bank.specs.ReloadEntries.{own, paged, Displaces}

@@ -1,6 +1,6 @@
-use Rattle.std.proofs.Common.{◌≡◌, ℕ, zero, suc, ◌<◌, ◌≤◌, Bool, true, false, cond, not, ◌&&◌, eqb, ◌≢◌, List, [], ◌∷◌, length, get_or, set, is_some, Some, None, Option, refl, ap, arith, MatchOption}
+use Rattle.std.proofs.Common.{◌≡◌, ℕ, zero, suc, ◌<◌, true, cond, not, eqb, ◌≢◌, List, [], ◌∷◌, length, get_or, set, is_some, Some, None, Option, refl, ap, arith, MatchOption}
 use Rattle.std.proofs.lemmas.Bool.Decides.{nat_tests}
-use Rattle.std.proofs.lemmas.Bool.{and_parts, and_from}
+use Rattle.std.proofs.lemmas.Bool.{and_parts}
 use Rattle.bank.specs.declared.reload_entry.ReloadEntry.{ReloadEntry}
 use Rattle.bank.specs.ReloadEntries.{own, once, paged, Has, Lacks, Rewritten, Taken, Vacated, Displaces}
 

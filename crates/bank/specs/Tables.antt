@@ -1,5 +1,5 @@
 -- Tables in which each pair of core and page has one entry.
-use Rattle.std.specs.Prelude.{◌≡◌, ℕ, ◌<◌, Bool, true, false, cond, List, replicate, Some, None, Option, slice_index_or, slice_set}
+use Rattle.std.specs.Prelude.{◌≡◌, ℕ, Bool, false, cond, List, replicate, Some, None, Option, slice_index_or, slice_set}
 use Rattle.bank.specs.Meaning.{Operation}
 use Rattle.bank.specs.Meaning.Operation.{Install, DropPage, Clear}
 

@@ -1,8 +1,7 @@
 -- What one word more asks for, after those before it.
-use Rattle.std.proofs.Common.{◌≡◌, ℕ, Bool, true, false, cond, not, ◌&&◌, ◌||◌, List, [], ◌∷◌, ◌++◌, map, is_err, Some, None, Ok, Err, string_bytes, codes, Decides, Option, Result, String, sym, refl, ap, ◌∙◌, append-nil, rules}
+use Rattle.std.proofs.Common.{◌≡◌, ℕ, Bool, true, false, cond, not, ◌&&◌, ◌||◌, List, [], ◌∷◌, ◌++◌, map, is_err, Some, None, Ok, Err, string_bytes, codes, Option, Result, String, sym, refl, ap, ◌∙◌, append-nil}
 use Rattle.std.specs.declared.alloc.Global.{Global}
 use Rattle.std.specs.Str.{bytes_eq}
-use Rattle.std.proofs.lemmas.Slice.Eq.{bytes_eq-Decides}
 use Rattle.command.specs.declared.options.Misuse.{Misuse}
 use Rattle.command.specs.declared.options.Options.{Options}
 use Rattle.command.specs.Arguments.{Place, Wish, is_flag, is_brief, place_named, places, any_brief, all_known, wish_for, one_more, wish_read}

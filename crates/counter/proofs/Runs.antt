@@ -1,10 +1,10 @@
 -- What holds of one operation holds of a run.
-use Rattle.std.proofs.Common.{◌≡◌, ℕ, ◌+◌, ◌≤◌, Bool, cond, ◌≢◌, List, [], ◌∷◌, Some, sym, refl, ap, ◌∙◌, subst, ⊎_elim, arith}
+use Rattle.std.proofs.Common.{◌≡◌, ℕ, Bool, ◌≢◌, List, [], ◌∷◌, sym, refl, ap, ◌∙◌, subst, ⊎_elim, arith}
 use Rattle.std.proofs.lemmas.Bool.{cases_eq, cond_both}
 use Rattle.model.specs.CoreSets.{all_below}
-use Rattle.counter.specs.Meaning.{Meaning, how_many, put_at, has_closed, Operation}
+use Rattle.counter.specs.Meaning.{Meaning, how_many, has_closed, Operation}
 use Rattle.counter.specs.Meaning.Operation.{Give, Up, Down, Revive, Fold, Judge, Close}
-use Rattle.counter.specs.Operations.{Object, Allowed}
+use Rattle.counter.specs.Operations.{Allowed}
 use Rattle.counter.specs.Timeline.{Timeline, noted, note_epoch, InTurn, Prompt}
 use Rattle.counter.specs.Runs.{Run, Unheld, PromptOverRuns}
 use Rattle.counter.specs.Meanings.{put_here, put_elsewhere}

@@ -1,12 +1,12 @@
 -- What the marks of the plain count mean.
-use Rattle.std.proofs.Common.{◌≡◌, ℕ, zero, suc, ◌+◌, ◌^◌, Bool, true, false, cond, ◌||◌, eqb, List, get_or, replicate, None, Option, sym, refl, ap, ◌∙◌, ap₂}
+use Rattle.std.proofs.Common.{◌≡◌, ℕ, zero, suc, ◌+◌, ◌^◌, Bool, true, false, cond, ◌||◌, eqb, get_or, replicate, None, Option, refl, ap, ◌∙◌, ap₂}
 use mathlib.Core.Path.{fun_ext}
 use lib.Bits.{bit_or}
 use Rattle.model.specs.CoreSets.{member, all_below}
 use Rattle.model.proofs.Sets.{none_member, join_member}
 use Rattle.counter.specs.Meaning.{Meaning, put_at, begun, has_folded, has_closed, next_epoch, closes}
 use Rattle.counter.specs.Meaning.Operation.{Close}
-use Rattle.counter.specs.Plain.{Table, table_meaning, blank_table, mark_folded, mark_closed, turned, table_after}
+use Rattle.counter.specs.Plain.{Table, table_meaning, mark_folded, mark_closed, turned, table_after}
 
 or_cond : (s t : Bool) → (s || t) ≡ cond t true s
 or_cond true true = refl

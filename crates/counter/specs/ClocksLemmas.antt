@@ -1,6 +1,6 @@
 -- What the marks of a clock mean.
 use Rattle.std.specs.Prelude.{◌≡◌, ℕ, ◌+◌, ◌^◌, Bool, true, false, cond, ◌||◌, Option, ◌==◌, bit_or, refl}
-use Rattle.std.proofs.Common.{ap, ap₂, ◌∙◌}
+use Rattle.std.proofs.Common.{ap, ◌∙◌}
 use Rattle.std.proofs.Math.Path.{fun_ext}
 use Rattle.model.specs.CoreSets.{member, all_below}
 use Rattle.model.proofs.Sets.{none_member, join_member}

@@ -1,10 +1,10 @@
 -- What a judgement and a close leave as it was, for callers that go on after one.
-use Rattle.std.specs.Prelude.{◌≡◌, ℕ, Bool, true, false, cond, ◌≢◌, Some, None, Option, ◌==◌, refl}
+use Rattle.std.specs.Prelude.{◌≡◌, ℕ, Bool, true, false, ◌≢◌, Some, None, Option, ◌==◌, refl}
 use Rattle.std.proofs.Common.{sym, ap, ◌∙◌, ⊎_elim, arith}
 use Rattle.std.proofs.lemmas.Bool.{eq-eqb, ne_eqb, cases_eq, cond-true, cond-false, cond_both}
 use Rattle.model.specs.CoreSets.{all_below}
 use Rattle.counter.specs.Timeline.{Timeline, note_judgement}
-use Rattle.counter.specs.Meaning.{Meaning, how_many, put_at, freed, has_closed, next_epoch, closes, Judged}
+use Rattle.counter.specs.Meaning.{Meaning, how_many, put_at, has_closed, next_epoch, closes, Judged}
 
 -- a function with x put at k
 pub put_here : {X : Type 0} (k : ℕ) (x : X) (f : ℕ → X) → put_at k x f k ≡ x

@@ -1,5 +1,5 @@
 -- What the plain count keeps, and what exactly each operation makes of it.
-use Rattle.std.specs.Prelude.{◌≡◌, ℕ, zero, suc, ◌+◌, ◌-◌, ◌^◌, ◌<◌, ◌≤◌, Bool, true, false, cond, List, set, replicate, Some, None, Option, ◌==◌, bit_or, slice_index_or, slice_set}
+use Rattle.std.specs.Prelude.{◌≡◌, ℕ, ◌+◌, ◌-◌, ◌^◌, ◌<◌, ◌≤◌, Bool, false, cond, List, replicate, Some, None, Option, ◌==◌, bit_or, slice_index_or, slice_set}
 use Rattle.model.specs.CoreSets.{member, all_below}
 use Rattle.counter.specs.Meaning.{Meaning, how_many, Operation}
 use Rattle.counter.specs.Meaning.Operation.{Give, Up, Down, Revive, Fold, Judge, Close}

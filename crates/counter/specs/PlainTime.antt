@@ -1,16 +1,16 @@
 -- The plain count keeps its meaning, and judges every object without holders in the epoch after the loss.
-use Rattle.std.specs.Prelude.{◌≡◌, ℕ, ◌+◌, ◌-◌, ◌<◌, ◌≤◌, Bool, true, false, cond, ◌≢◌, List, length, Some, None, Option, refl}
+use Rattle.std.specs.Prelude.{◌≡◌, ℕ, ◌<◌, ◌≤◌, Bool, true, false, cond, ◌≢◌, length, Some, None, Option, refl}
 use Rattle.std.proofs.Common.{sym, ap, subst, ◌∙◌, ⊎_elim, arith, get_or-set_same, get_or-set_other}
 use Rattle.std.proofs.Math.Path.{fun_ext}
-use Rattle.std.proofs.lemmas.Bool.{eqb-true, eq-eqb, cases_eq, cases_lt, cond-true, cond-false, both_ways}
+use Rattle.std.proofs.lemmas.Bool.{eqb-true, cases_eq, cases_lt, both_ways}
 use Rattle.model.specs.CoreSets.{member, all_below}
-use Rattle.counter.specs.Meaning.{Meaning, how_many, put_at, with_holders, has_closed, Operation}
+use Rattle.counter.specs.Meaning.{put_at, with_holders, Operation}
 use Rattle.counter.specs.Meaning.Operation.{Give, Up, Down, Revive, Fold, Judge, Close}
-use Rattle.counter.specs.Operations.{Object, Allowed, Does}
+use Rattle.counter.specs.Operations.{Allowed, Does}
 use Rattle.counter.specs.Timeline.{Timeline, note_loss, note_judgement, note_epoch, noted, InTurn, Swept}
 use Rattle.counter.specs.declared.epoch.Clock.{Clock}
-use Rattle.counter.specs.Clocks.{clock_meaning, clock_turned, clock_marked, clock_closes}
-use Rattle.counter.specs.Plain.{Table, count_at, table_meaning, unheld, put_count, turned, mark_closed, table_after, TableSteps, SoonJudged, TableTimely}
+use Rattle.counter.specs.Clocks.{clock_meaning, clock_turned, clock_marked}
+use Rattle.counter.specs.Plain.{Table, count_at, table_meaning, unheld, put_count, turned, mark_closed, table_after, TableSteps, TableTimely}
 use Rattle.counter.specs.ClocksLemmas.{folds_means, closes_means, last_means}
 use Rattle.counter.specs.Meanings.{put_here, put_elsewhere, put_is, none_not, some_is, judged_other}
 

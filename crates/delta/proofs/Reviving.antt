@@ -1,5 +1,5 @@
 -- The small run, computed.
-use Rattle.std.proofs.Common.{◌≡◌, refl}
+use Rattle.std.proofs.Common.{refl}
 use Rattle.model.specs.CoreSets.{all_below}
 use Rattle.ledger.specs.Slots.{sum_of}
 use Rattle.ledger.specs.States.{fold_slot, fold_first, make_room}

@@ -1,10 +1,10 @@
 -- Facts about one record: what folding a change and judging leave.
-use Rattle.std.specs.Prelude.{◌≡◌, ℕ, ◌+◌, ◌<◌, ◌≤◌, Bool, true, false, cond, not, ◌&&◌, ◌||◌, ℤ, pos, negsuc, ◌+ℤ◌, is_some, Some, None, Option, ◌==◌, ◌≢◌, nat_le, refl}
+use Rattle.std.specs.Prelude.{◌≡◌, ℕ, ◌+◌, ◌≤◌, Bool, true, false, cond, not, ◌&&◌, ℤ, pos, negsuc, ◌+ℤ◌, is_some, Some, None, Option, ◌==◌, ◌≢◌, nat_le, refl}
 use Rattle.std.proofs.Common.{sym, ap, ◌∙◌, arith}
 use Rattle.std.proofs.lemmas.Bool.{eqb-true, eq-eqb, ne_eqb, lt-leb, le-leb, and_parts, and_from, and_left, or_from, or_left, cond_both, both_ways}
 use Rattle.counter.specs.declared.epoch.Clock.{Clock}
 use Rattle.ledger.specs.declared.record.Record.{Record}
-use Rattle.ledger.specs.Records.{is_zero, with_shared, disturbed_by, spared, enlisted, unlisted, settled, after_fold, lists, on_list_of, is_due, firm, verdict, after_judge}
+use Rattle.ledger.specs.Records.{is_zero, with_shared, disturbed_by, spared, enlisted, unlisted, after_fold, lists, on_list_of, is_due, firm, verdict, after_judge}
 use Rattle.delta.specs.Safety.{used, pending, folded_since}
 
 pub is_zero_is : (z : ℤ) → is_zero z ≡ true → z ≡ pos 0

@@ -1,7 +1,7 @@
 -- Every operation, where it may come, keeps the tables sound and does to the meaning what a counter promises.
-use Rattle.std.specs.Prelude.{◌≡◌, ℕ, ◌<◌, ◌≤◌, Bool, refl}
+use Rattle.std.specs.Prelude.{ℕ, ◌≤◌, Bool}
 use Rattle.std.proofs.Common.{sym, ◌∙◌, ap, subst, arith}
-use Rattle.counter.specs.Meaning.{Meaning, Operation, raised, Judged}
+use Rattle.counter.specs.Meaning.{Operation, raised, Judged}
 use Rattle.counter.specs.Meaning.Operation.{Give, Up, Down, Revive, Fold, Judge, Close}
 use Rattle.counter.specs.Operations.{Allowed, Does}
 use Rattle.counter.specs.ClocksLemmas.{closes_means}

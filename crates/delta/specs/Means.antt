@@ -1,13 +1,12 @@
 -- What each step does to the meaning.
-use Rattle.std.specs.Prelude.{◌≡◌, ℕ, ◌+◌, ◌-◌, ◌%◌, ◌<◌, ◌≤◌, Bool, true, false, cond, ◌≢◌, ◌⊎◌, length, ℤ, pos, negsuc, ◌+ℤ◌, is_some, Some, None, Option, unsigned_abs, refl}
-use Rattle.std.proofs.Common.{sym, ◌∙◌, ap, ap₂, subst, inl, inr, ⊎_elim, arith}
+use Rattle.std.specs.Prelude.{◌≡◌, ℕ, ◌+◌, ◌-◌, ◌%◌, ◌<◌, ◌≤◌, Bool, true, false, ◌≢◌, ◌⊎◌, length, ℤ, pos, ◌+ℤ◌, is_some, Some, None, unsigned_abs, refl}
+use Rattle.std.proofs.Common.{sym, ◌∙◌, ap, subst, inl, inr, ⊎_elim, arith}
 use Rattle.std.proofs.Math.Path.{fun_ext}
 use Rattle.std.proofs.lemmas.Int.{ints}
 use Rattle.std.proofs.lemmas.Bool.{cond-true, cond-false, cases_eq, cases_Bool, both_ways}
-use Rattle.counter.specs.declared.epoch.Clock.{Clock}
-use Rattle.counter.specs.Meaning.{Meaning, how_many, put_at, with_holders, begun, given, raised, lowered, freed, has_folded, closes, Judged}
-use Rattle.counter.specs.Clocks.{clock_meaning, clock_folds, clock_closes, clock_started}
-use Rattle.counter.specs.ClocksLemmas.{started_means, folds_means, closes_means}
+use Rattle.counter.specs.Meaning.{Meaning, how_many, put_at, with_holders, begun, given, has_folded, Judged}
+use Rattle.counter.specs.Clocks.{clock_meaning, clock_folds, clock_started}
+use Rattle.counter.specs.ClocksLemmas.{started_means, folds_means}
 use Rattle.counter.specs.Meanings.{put_is, none_not, some_is}
 use Rattle.ledger.specs.declared.slot.Delta.{Delta}
 use Rattle.ledger.specs.declared.slot.Move.{Move}
@@ -15,9 +14,9 @@ use Rattle.ledger.specs.declared.slot.Move.TheVariants.{Gain, Loss}
 use Rattle.ledger.specs.declared.record.Record.{Record}
 use Rattle.ledger.specs.Slots.{place, by_of}
 use Rattle.ledger.specs.Records.{blank, given_to, spared, after_fold, verdict, after_judge}
-use Rattle.ledger.specs.States.{State, Ready, record_at, slot_at, total, put_record, put_clock, reported, fold_slot, fold_first, slot_of, make_room, moved, shift, spare_at, judge_at, started, fold_all}
+use Rattle.ledger.specs.States.{State, record_at, slot_at, total, put_record, reported, fold_slot, fold_first, slot_of, make_room, moved, shift, spare_at, judge_at, started, fold_all}
 use Rattle.ledger.proofs.Sums.{get_d_replicate}
-use Rattle.ledger.proofs.Folding.{place_fits, fold_cases, fold_clock, reported_total, object_known, object_named, first_keeps, first_clock}
+use Rattle.ledger.proofs.Folding.{place_fits, fold_cases, reported_total, object_known, object_named, first_keeps}
 use Rattle.ledger.proofs.Rooms.{Room, room_cases, room_made}
 use Rattle.delta.specs.Safety.{used, pending, holders_in, delta_meaning, Sound}
 use Rattle.delta.specs.Facts.{after_fold_used, after_fold_pending, spared_pending, judge_shared, judge_spares, judge_frees, due_used}

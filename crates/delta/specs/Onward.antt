@@ -1,25 +1,24 @@
 -- Every operation, where it may come and in its turn, keeps every object of the kind on time.
-use Rattle.std.specs.Prelude.{◌≡◌, ℕ, ◌+◌, ◌-◌, ◌<◌, ◌≤◌, Bool, true, false, cond, ◌≢◌, ◌⊎◌, length, is_some, Some, None, Option, refl}
+use Rattle.std.specs.Prelude.{◌≡◌, ℕ, ◌+◌, ◌-◌, ◌<◌, ◌≤◌, Bool, true, false, cond, ◌≢◌, length, is_some, Some, None, Option, refl}
 use Rattle.std.proofs.Common.{sym, ◌∙◌, ap, subst, ⊎_elim, arith}
-use Rattle.std.proofs.lemmas.Bool.{cases_eq, cond_both, both_ways}
-use Rattle.counter.specs.declared.epoch.Clock.{Clock}
-use Rattle.counter.specs.Meaning.{Meaning, how_many, put_at, has_folded, freed, Judged, Operation}
+use Rattle.std.proofs.lemmas.Bool.{cases_eq, both_ways}
+use Rattle.counter.specs.Meaning.{Meaning, how_many, put_at, has_folded, Judged, Operation}
 use Rattle.counter.specs.Meaning.Operation.{Give, Up, Down, Revive, Fold, Judge, Close}
 use Rattle.counter.specs.Operations.{Object, Allowed, Does}
-use Rattle.counter.specs.Timeline.{Timeline, note_loss, note_judgement, note_epoch, noted, InTurn, Swept}
-use Rattle.counter.specs.Clocks.{clock_meaning, clock_marked, clock_turned, last_to_close, clock_closes}
+use Rattle.counter.specs.Timeline.{Timeline, note_judgement, note_epoch, noted, InTurn}
+use Rattle.counter.specs.Clocks.{clock_meaning, clock_marked, clock_turned, last_to_close}
 use Rattle.counter.specs.ClocksLemmas.{last_means}
 use Rattle.counter.specs.Meanings.{put_here, put_elsewhere, none_not, some_is, judged_other}
 use Rattle.ledger.specs.declared.slot.Move.{Move}
 use Rattle.ledger.specs.declared.slot.Move.TheVariants.{Gain, Loss}
 use Rattle.ledger.specs.declared.record.Record.{Record}
-use Rattle.ledger.specs.Records.{blank, given_to, spared, verdict}
+use Rattle.ledger.specs.Records.{blank, given_to, spared}
 use Rattle.ledger.specs.States.{State, StateSteps, record_at, put_record, put_clock, make_room, shift, spare_at, judge_at, started, state_after}
 use Rattle.ledger.proofs.Sums.{get_d_replicate}
 use Rattle.delta.specs.Safety.{used, holders_in, delta_meaning, Sound}
-use Rattle.delta.specs.Promptness.{Timed, Seen, Due, Punctual, OnTime}
+use Rattle.delta.specs.Promptness.{Seen, Due, Punctual, OnTime}
 use Rattle.delta.specs.Safe.{all_folded}
-use Rattle.delta.specs.Means.{unheld_parts, free_holders, judge_means}
+use Rattle.delta.specs.Means.{unheld_parts, free_holders}
 use Rattle.delta.specs.Keeps.{keeps_meaning}
 use Rattle.delta.specs.Prompt.{InTime, StateInTime, unlisted_intime, same_intime, write_intime, room_intime, mark_intime, judge_state, judge_sees, closed_timed, turned_timed, due_bound, due_new, due_room, due_all, due_moved, due_write, due_judge, due_closed, due_turned}
 

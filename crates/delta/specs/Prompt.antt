@@ -1,25 +1,24 @@
 -- Every step keeps the objects on time.
-use Rattle.std.specs.Prelude.{◌≡◌, ℕ, ◌+◌, ◌/◌, ◌%◌, ◌^◌, ◌<◌, ◌≤◌, Bool, true, false, cond, not, ◌&&◌, ◌||◌, ◌≢◌, ◌⊎◌, length, ℤ, pos, ◌+ℤ◌, is_some, Some, None, Option, nat_le, refl}
-use Rattle.std.proofs.Common.{sym, ◌∙◌, ap, subst, inl, inr, ⊎_elim, arith}
+use Rattle.std.specs.Prelude.{◌≡◌, ℕ, ◌+◌, ◌/◌, ◌%◌, ◌<◌, ◌≤◌, Bool, true, false, not, ◌≢◌, length, ℤ, pos, ◌+ℤ◌, is_some, Some, None, nat_le, refl}
+use Rattle.std.proofs.Common.{sym, ◌∙◌, ap, subst, ⊎_elim, arith}
 use Rattle.std.proofs.lemmas.Int.{ints}
 use Rattle.std.proofs.lemmas.Bool.{eqb-true, le-leb, and_parts, and_from, or_cases, not-true, cond_both, cases_eq, cases_lt, both_ways}
 use Rattle.model.specs.CoreSets.{member}
 use Rattle.model.proofs.Sets.{none_member, all_each}
 use Rattle.counter.specs.declared.epoch.Clock.{Clock}
-use Rattle.counter.specs.Clocks.{clock_folds, clock_marked, clock_turned, last_to_close, clock_closes}
-use Rattle.ledger.specs.declared.slot.Delta.{Delta}
+use Rattle.counter.specs.Clocks.{clock_folds, clock_marked, clock_turned, last_to_close}
 use Rattle.ledger.specs.declared.slot.Move.{Move}
 use Rattle.ledger.specs.declared.record.Record.{Record}
-use Rattle.ledger.specs.Slots.{place, object_in, part, sum_of}
-use Rattle.ledger.specs.Records.{blank, with_shared, disturbed_by, enlisted, unlisted, spared, settled, after_fold, is_zero, lists, on_list_of, is_due, firm, after_judge}
-use Rattle.ledger.specs.States.{State, Ready, record_at, slot_at, total, put_record, put_slot, put_clock, reported, fold_slot, fold_first, slot_of, make_room, moved, judge_at, fold_all}
+use Rattle.ledger.specs.Slots.{place, object_in}
+use Rattle.ledger.specs.Records.{blank, with_shared, disturbed_by, enlisted, unlisted, spared, after_fold, is_zero, lists, on_list_of, firm, after_judge}
+use Rattle.ledger.specs.States.{State, Ready, record_at, slot_at, total, put_record, put_clock, fold_slot, fold_first, make_room, moved, judge_at, fold_all}
 use Rattle.ledger.proofs.Sums.{each_set, sum_none}
 use Rattle.ledger.proofs.Folding.{fold_cases, fold_clock, first_keeps, first_clock}
 use Rattle.ledger.proofs.Rooms.{room_cases}
 use Rattle.delta.specs.Safety.{used, holders_in, Has, Sound}
 use Rattle.delta.specs.Promptness.{Timed, Seen, Due}
 use Rattle.delta.specs.Facts.{on_some, some_on, zero_is, judge_cases}
-use Rattle.delta.specs.Safe.{has_cleared, has_before, record_here, record_other, first_empties, not_of, joined_other, all_folded}
+use Rattle.delta.specs.Safe.{has_cleared, has_before, record_here, record_other, first_empties, not_of, joined_other}
 use Rattle.delta.specs.Means.{unheld_parts}
 
 -- One record: when it was listed, and which cores need not judge it again

@@ -1,5 +1,4 @@
 -- Soundness is a proposition, so that it can be taken out of a value's type.
-use Rattle.std.specs.Prelude.{◌≡◌}
 use Rattle.std.proofs.Math.Logic.{∥∥₁_elim}
 use mathlib.Core.HLevel.{Π_prop, ×_prop, ⊥_prop}
 use Rattle.std.proofs.Math.Bool.{Bool-set}

@@ -1,7 +1,7 @@
 -- A small run of the rules: a node loses its last holder, is flushed, and is revived before it is judged.
-use Rattle.std.specs.Prelude.{◌≡◌, ℕ, Bool, true, false, List, [], ◌∷◌, pos, Some, None}
+use Rattle.std.specs.Prelude.{◌≡◌, ℕ, true, false, List, [], ◌∷◌, Some, None}
 use Rattle.counter.specs.Meaning.{Operation}
-use Rattle.counter.specs.Meaning.Operation.{Give, Up, Down, Revive, Fold, Judge, Close}
+use Rattle.counter.specs.Meaning.Operation.{Give, Down, Revive, Fold, Judge, Close}
 use Rattle.ledger.specs.Records.{on_list_of}
 use Rattle.ledger.specs.States.{State, started, state_after, AnswersRight, record_at}
 use Rattle.delta.specs.Safety.{holders_in}

@@ -1,13 +1,13 @@
 -- Every step keeps the tables sound.
-use Rattle.std.specs.Prelude.{◌≡◌, ℕ, zero, suc, ◌+◌, ◌*◌, ◌/◌, ◌%◌, ◌^◌, ◌<◌, ◌≤◌, Bool, true, false, cond, not, ◌&&◌, ◌||◌, leb, ◌≢◌, ◌⊎◌, length, get_or, replicate, ℤ, pos, negsuc, ◌+ℤ◌, is_some, Some, None, Option, ◌==◌, bit_or, nat_le, slice_index_or, slice_set, unsigned_abs, refl}
-use Rattle.std.proofs.Common.{sym, ◌∙◌, ap, subst, inl, inr, ⊎_elim, arith, length-set, get_or-set_same, get_or-set_other}
+use Rattle.std.specs.Prelude.{◌≡◌, ℕ, zero, suc, ◌+◌, ◌/◌, ◌%◌, ◌^◌, ◌<◌, ◌≤◌, Bool, true, false, ◌&&◌, ◌||◌, leb, ◌≢◌, ◌⊎◌, length, get_or, replicate, ℤ, pos, ◌+ℤ◌, is_some, Some, None, Option, ◌==◌, bit_or, nat_le, slice_index_or, slice_set, unsigned_abs, refl}
+use Rattle.std.proofs.Common.{sym, ◌∙◌, ap, subst, ⊎_elim, arith, length-set, get_or-set_same, get_or-set_other}
 use Rattle.std.proofs.lemmas.Int.{ints}
 use Rattle.std.proofs.lemmas.List.{length-replicate}
-use Rattle.std.proofs.lemmas.Bool.{eq-eqb, ne_eqb, eqb-true, leb-true, le-leb, and_parts, and_from, or_cases, or_left, or_right, cond_both, cases_eq, cases_lt, cases_Bool, both_ways}
-use Rattle.model.specs.CoreSets.{member, all_below}
+use Rattle.std.proofs.lemmas.Bool.{eq-eqb, ne_eqb, leb-true, le-leb, and_parts, and_from, or_cases, or_left, or_right, cond_both, cases_eq, cases_lt, both_ways}
+use Rattle.model.specs.CoreSets.{member}
 use Rattle.model.proofs.Sets.{none_member, join_member, all_each}
 use Rattle.counter.specs.declared.epoch.Clock.{Clock}
-use Rattle.counter.specs.Clocks.{clock_started, clock_folds, clock_marked, clock_turned, last_to_close, clock_closes}
+use Rattle.counter.specs.Clocks.{clock_folds, clock_marked, clock_turned, last_to_close, clock_closes}
 use Rattle.ledger.specs.declared.slot.Delta.{Delta}
 use Rattle.ledger.specs.declared.slot.Move.{Move}
 use Rattle.ledger.specs.declared.record.Record.{Record}
@@ -15,8 +15,8 @@ use Rattle.ledger.specs.Slots.{place, object_in, change_in, by_of, part, sum_of}
 use Rattle.ledger.specs.Records.{blank, given_to, spared, after_fold, is_zero, is_due, on_list_of, firm, verdict, after_judge, enlisted, unlisted}
 use Rattle.ledger.specs.States.{State, Ready, record_at, slot_at, total, put_record, put_slot, put_clock, reported, fold_slot, fold_first, slot_of, make_room, moved, started, fold_all}
 use Rattle.ledger.proofs.Sums.{sum_set, sum_replicate, each_set, each_replicate, get_d_replicate, part_same, part_other, part_none, sum_none}
-use Rattle.ledger.proofs.Folding.{place_fits, fold_cases, reported_total, reported_ready, object_known, object_named, fold_empties, first_keeps, first_clock, fold_ready, first_ready}
-use Rattle.ledger.proofs.Rooms.{Room, room_cases, room_made}
+use Rattle.ledger.proofs.Folding.{place_fits, fold_cases, reported_total, reported_ready, object_known, fold_empties, first_keeps, first_clock, first_ready}
+use Rattle.ledger.proofs.Rooms.{Room, room_cases}
 use Rattle.delta.specs.Safety.{used, pending, folded_since, Has, Quiet, Sound}
 use Rattle.delta.specs.Facts.{is_zero_is, on_some, after_fold_used, after_fold_pending, spared_pending, since_late, since_fresh, judge_cases}
 

@@ -1,13 +1,13 @@
 -- Room for a change in the slot of an object.
-use Rattle.std.proofs.Common.{◌≡◌, ℕ, ◌%◌, ◌<◌, ◌≤◌, Bool, true, false, cond, not, ◌||◌, eqb, ◌⊎◌, length, set, ℤ, pos, ◌+ℤ◌, nat_abs, Some, None, Option, sym, refl, ap, ◌∙◌, inl, inr, arith}
+use Rattle.std.proofs.Common.{◌≡◌, ℕ, ◌%◌, ◌<◌, ◌≤◌, true, false, not, eqb, ◌⊎◌, set, ℤ, ◌+ℤ◌, nat_abs, Some, None, Option, sym, refl, ap, ◌∙◌, inl, inr, arith}
 use borrow.Author.Differences.{ints}
 use Rattle.std.proofs.lemmas.Bool.{eqb-true, or_parts, not-false, cond_both, cond-true, cond-false}
 use Rattle.ledger.specs.declared.slot.Delta.{Delta}
 use Rattle.ledger.specs.declared.slot.Move.{Move}
 use Rattle.ledger.specs.declared.slot.Move.TheVariants.{Gain, Loss}
 use Rattle.ledger.specs.Slots.{object_in, change_in, by_of}
-use Rattle.ledger.specs.States.{State, Ready, slot_at, slot_of, fold_slot, at_limit, is_full, make_room, moved, put_slot}
-use Rattle.ledger.proofs.Folding.{place_fits, fold_empties, fold_cases}
+use Rattle.ledger.specs.States.{State, Ready, slot_at, slot_of, fold_slot, at_limit, is_full, make_room, moved}
+use Rattle.ledger.proofs.Folding.{place_fits, fold_empties}
 
 -- a slot with room for a change of object o
 pub record Room (way : Move) (o : ℕ) (s : Option Delta) : Type 0 where

@@ -1,5 +1,5 @@
 -- The delta slots, and what they change of an object's holders.
-use Rattle.std.specs.Prelude.{◌≡◌, ℕ, ◌+◌, ◌*◌, ◌%◌, ◌<◌, ◌≤◌, Bool, true, false, cond, List, [], ◌∷◌, length, ℤ, pos, negsuc, ◌+ℤ◌, is_some, Some, None, Option, ◌==◌, slice_index_or, unsigned_abs}
+use Rattle.std.specs.Prelude.{◌≡◌, ℕ, ◌+◌, ◌*◌, ◌%◌, ◌≤◌, true, cond, List, [], ◌∷◌, ℤ, pos, negsuc, ◌+ℤ◌, is_some, Some, None, Option, ◌==◌, slice_index_or, unsigned_abs}
 use Rattle.ledger.specs.declared.slot.Delta.{Delta}
 use Rattle.ledger.specs.declared.slot.Move.{Move}
 use Rattle.ledger.specs.declared.slot.Move.TheVariants.{Gain, Loss}

@@ -1,5 +1,5 @@
 -- The tables of the delta cache as a whole, and what exactly each operation makes of them.
-use Rattle.std.specs.Prelude.{◌≡◌, ℕ, zero, suc, ◌+◌, ◌%◌, ◌≤◌, Bool, true, false, cond, not, ◌||◌, List, length, replicate, ℤ, pos, negsuc, ◌+ℤ◌, is_some, Some, None, Option, ◌==◌, int_le, slice_index_or, slice_set, unsigned_abs}
+use Rattle.std.specs.Prelude.{◌≡◌, ℕ, zero, suc, ◌%◌, ◌≤◌, Bool, true, false, cond, not, ◌||◌, List, length, replicate, ℤ, pos, negsuc, ◌+ℤ◌, is_some, Some, None, Option, ◌==◌, int_le, slice_index_or, slice_set, unsigned_abs}
 use Rattle.counter.specs.declared.epoch.Clock.{Clock}
 use Rattle.counter.specs.Meaning.{Operation}
 use Rattle.counter.specs.Meaning.Operation.{Give, Up, Down, Revive, Fold, Judge, Close}

@@ -1,14 +1,11 @@
 -- Which number, part and place each fault has.
-use Rattle.std.specs.Prelude.{ℕ, Some, None, Option}
+use Rattle.std.specs.Prelude.{ℕ, None, Option}
 use Rattle.model.specs.declared.fault.Part.{Part}
 use Rattle.model.specs.declared.fault.Part.TheVariants as parts
-use Rattle.model.specs.declared.fault.PoolFault.{PoolFault}
 use Rattle.model.specs.declared.fault.PoolFault.TheVariants.{NoFreeFrame}
-use Rattle.model.specs.declared.fault.TreeFault.{TreeFault}
 use Rattle.model.specs.declared.fault.TreeFault.TheVariants.{Pool, TooFewNodes}
 use Rattle.model.specs.declared.fault.Reason.{Reason}
 use Rattle.model.specs.declared.fault.Reason.TheVariants.{CoreNotInService, BadRange, NoLabel, Mapped, Closing, Vacant, NoFrame, AlreadyOpen, NoneOpen, StillWaiting, LastEpoch, BadSetUp}
-use Rattle.model.specs.declared.fault.SpaceFault.{SpaceFault}
 use Rattle.model.specs.declared.fault.SpaceFault.TheVariants.{Tree, Refused}
 use Rattle.model.specs.declared.fault.Fault.{Fault}
 use Rattle.model.specs.declared.fault.Fault.TheVariants.{Space, BadRecord}

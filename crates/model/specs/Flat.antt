@@ -1,6 +1,5 @@
 -- The flat page map, and what set up, map and look are on it.
 use Rattle.std.specs.Prelude.{◌≡◌, ℕ, zero, suc, ◌+◌, ◌<◌, ◌≤◌, Bool, true, false, cond, ◌&&◌, Some, None, Option, nat_le, nat_lt}
-use Rattle.model.specs.declared.page.Mapping.{Mapping}
 use Rattle.model.specs.declared.page.PageState.{PageState}
 use Rattle.model.specs.declared.page.PageState.TheVariants.{Vacant, InUse}
 use Rattle.model.specs.Pages.{fresh, look_answer}

@@ -1,5 +1,5 @@
 -- What a page can be.
-use Rattle.std.specs.Prelude.{◌≡◌, ℕ, ◌+◌, ◌*◌, ◌<◌, ◌≤◌, Bool, false, not, is_some, Some, None, Option}
+use Rattle.std.specs.Prelude.{ℕ, ◌+◌, ◌*◌, ◌≤◌, Bool, false, not, is_some, Some, None, Option}
 use Rattle.model.specs.declared.page.Mapping.{Mapping}
 use Rattle.model.specs.declared.page.PageState.{PageState}
 use Rattle.model.specs.declared.page.PageState.TheVariants.{Vacant, InUse}

@@ -1,5 +1,5 @@
 -- No bytes but the record of a call ask for that call.
-use Rattle.std.proofs.Common.{◌≡◌, ℕ, zero, suc, ◌+◌, ◌*◌, ◌/◌, ◌%◌, ◌<◌, Bool, true, false, cond, ◌&&◌, eqb, List, [], ◌∷◌, ◌++◌, length, get_or, drop, Some, None, Ok, Err, Option, Result, sym, refl, ap, ◌∙◌, mod-eq_of_lt, add-one, arith, drop_of_length-le, drop-cons, eqb-true}
+use Rattle.std.proofs.Common.{◌≡◌, ℕ, zero, suc, ◌+◌, ◌*◌, ◌/◌, ◌%◌, Bool, true, false, cond, eqb, List, [], ◌∷◌, ◌++◌, length, get_or, drop, Some, None, Ok, Err, Option, Result, sym, refl, ap, ◌∙◌, mod-eq_of_lt, add-one, arith, drop_of_length-le, drop-cons, eqb-true}
 use native.Mathlib.Nat.{div-div-eq-div-mul, div-add-mod}
 use Rattle.std.proofs.lemmas.Bool.{and_parts}
 use Rattle.model.specs.declared.call.Call.{Call}
@@ -11,8 +11,8 @@ use Rattle.script.specs.declared.fields.Fields.{Fields}
 use Rattle.script.specs.declared.record.Words.{Words}
 use Rattle.script.specs.Kinds.{kind_of, kind_number}
 use Rattle.script.specs.FieldUse.{used_by}
-use Rattle.script.specs.Numbers.{word, word_bytes}
-use Rattle.script.specs.Records.{words_at, used_or_zero, words_zero, unused_zero, call_of, asked, decoded}
+use Rattle.script.specs.Numbers.{word_bytes}
+use Rattle.script.specs.Records.{words_at, used_or_zero, unused_zero, call_of, asked}
 use Rattle.script.specs.RecordLaws.{Byte, laid_out, encoded, OneRecord}
 
 -- four bytes are the bytes of the number that they make

@@ -1,7 +1,5 @@
 -- What `read` finds in the parts of a record is what the whole record says.
-use Rattle.std.proofs.Common.{◌≡◌, ℕ, ◌-◌, Bool, true, false, cond, eqb, List, length, get_or, take, drop, Some, None, Ok, Err, Option, Result, sym, refl, ap, ◌∙◌, arith, length-drop, get_or-drop, take_all, eq-eqb, eqb-true}
-use Rattle.model.specs.declared.call.Call.{Call}
-use Rattle.model.specs.declared.fault.Fault.{Fault}
+use Rattle.std.proofs.Common.{◌≡◌, ℕ, ◌-◌, Bool, true, false, cond, eqb, List, length, get_or, take, drop, Some, None, Ok, Err, Option, sym, refl, ap, ◌∙◌, arith, length-drop, get_or-drop, take_all, eq-eqb, eqb-true}
 use Rattle.model.specs.declared.fault.Fault.TheVariants.{BadRecord}
 use Rattle.script.specs.declared.kind.Kind.{Kind}
 use Rattle.script.specs.declared.fields.Fields.{Fields}

@@ -1,11 +1,9 @@
 -- The record of a call is sixteen bytes, and asks for that call.
-use Rattle.std.proofs.Common.{◌≡◌, ℕ, zero, suc, ◌+◌, ◌*◌, ◌/◌, ◌%◌, ◌<◌, List, [], ◌∷◌, ◌++◌, get_or, Ok, refl, ap, mod-eq_of_lt, arith, lit<}
+use Rattle.std.proofs.Common.{◌≡◌, ℕ, zero, suc, ◌/◌, ◌%◌, ◌<◌, List, [], ◌∷◌, ◌++◌, get_or, refl, mod-eq_of_lt, arith, lit<}
 use native.Mathlib.Nat.{div-div-eq-div-mul, div-add-mod}
-use Rattle.model.specs.declared.call.Call.{Call}
 use Rattle.model.specs.declared.call.Call.TheVariants.{SetUp, Map, Touch, Share, Begin, Acknowledge, Finish, Flush, Look}
 use Rattle.script.specs.Numbers.{word, word_bytes}
-use Rattle.script.specs.Records.{decoded}
-use Rattle.script.specs.RecordLaws.{laid_out, encoded, Byte, Word, FitsFields, RecordBytes, RoundTrip}
+use Rattle.script.specs.RecordLaws.{laid_out, Byte, Word, RecordBytes, RoundTrip}
 
 -- the bytes of a number make the number
 pub word_bytes_word : (n : ℕ) → Word n → word (word_bytes n) 0 ≡ n

@@ -1,9 +1,9 @@
 -- A space that was just set up: its parts agree, and every page is vacant.
-use Rattle.std.proofs.Common.{◌≡◌, ℕ, ◌+◌, ◌<◌, ◌≤◌, eqb, ◌⊎◌, Some, None, Option, sym, refl, ap, ◌∙◌, subst, ⊎_elim, arith}
+use Rattle.std.proofs.Common.{◌≡◌, ℕ, ◌<◌, ◌≤◌, eqb, Some, None, sym, ap, ◌∙◌, subst, ⊎_elim, arith}
 use Rattle.std.proofs.lemmas.Bool.{cases_eq, cond-true, cond-false, eq-eqb, ne_eqb}
 use Rattle.counter.specs.Meaning.{Meaning, begun, given}
 use Rattle.model.specs.Flat.{all_vacant}
-use Rattle.tree.specs.Nodes.{shows, link_at, state_of}
+use Rattle.tree.specs.Nodes.{link_at, state_of}
 use Rattle.tree.specs.Holders.{Tallied, holders}
 use Rattle.tree.specs.Changes.{planted}
 use Rattle.tree.specs.declared.pool.Pool.{Pool}

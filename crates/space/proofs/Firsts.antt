@@ -1,11 +1,10 @@
 -- The first map in a new space.
-use Rattle.std.proofs.Common.{◌≡◌, ℕ, ◌+◌, ◌-◌, ◌<◌, ◌≤◌, min, Bool, true, false, cond, eqb, ltb, List, Some, None, Ok, Err, Option, sym, refl, ap, ◌∙◌, arith}
+use Rattle.std.proofs.Common.{◌≡◌, ℕ, ◌+◌, ◌<◌, Bool, true, false, cond, ltb, List, Some, None, Ok, Err, Option, sym, refl, ap, ◌∙◌, arith}
 use Rattle.std.proofs.lemmas.Bool.{lt-ltb, le-ltb}
 use Rattle.model.specs.declared.fault.TreeFault.TheVariants.{TooFewNodes}
 use Rattle.tree.specs.declared.table.Tree.{Tree}
 use Rattle.tree.specs.Room.{room_for}
 use Rattle.model.specs.declared.fault.Reason.TheVariants.{CoreNotInService, BadRange, NoLabel, Mapped, Closing}
-use Rattle.model.specs.declared.page.PageState.{PageState}
 use Rattle.model.specs.Pages.{closing_by, mapped_state}
 use Rattle.model.specs.Flat.{lowest}
 use Rattle.model.proofs.Lowest.{lowest_is}
@@ -16,10 +15,10 @@ use Rattle.tree.specs.Nodes.{slot_at, shows}
 use Rattle.tree.specs.Need.{need, need_by, root_part}
 use Rattle.tree.specs.Soundness.{left}
 use Rattle.tree.proofs.Starting.{planted_root}
-use Rattle.space.specs.States.{State, set_up_state, flat}
+use Rattle.space.specs.States.{set_up_state}
 use Rattle.space.specs.Checks.{Check, and_then, unless, unless_found, of_tree, good_range, numbers_check, vacant_check, map_check}
 use Rattle.space.specs.Calls.{answer}
-use Rattle.space.specs.FirstMaps.{Makes, FirstMap, FirstMaps}
+use Rattle.space.specs.FirstMaps.{Makes, FirstMaps}
 use Rattle.space.proofs.Beginning.{all_blank}
 
 nothing : (f : ℕ → Bool) (first count : ℕ) → ((q : ℕ) → f q ≡ false) → lowest f first count ≡ None

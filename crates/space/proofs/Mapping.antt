@@ -1,7 +1,6 @@
 -- A fill of the tree is a map of the range on the flat page map.
-use Rattle.std.proofs.Common.{◌≡◌, ℕ, ◌+◌, ◌<◌, ◌≤◌, Bool, true, false, cond, ◌&&◌, ltb, leb, ◌⊎◌, sym, refl, ap, ◌∙◌, inl, inr, ⊎_elim, arith}
+use Rattle.std.proofs.Common.{◌≡◌, ℕ, ◌+◌, ◌<◌, ◌≤◌, ltb, leb, sym, ap, ◌∙◌, ⊎_elim, arith}
 use Rattle.std.proofs.lemmas.Bool.{cases_lt, cond-true, cond-false, lt-ltb, le-ltb, le-leb, lt-leb, and_from, and_left, and_right}
-use Rattle.model.specs.declared.page.PageState.{PageState}
 use Rattle.model.specs.declared.page.PageState.TheVariants.{InUse}
 use Rattle.model.specs.Pages.{fresh}
 use Rattle.model.specs.Flat.{inside, map_range}

@@ -1,11 +1,9 @@
 -- What is known once all checks of a map have passed.
-use Rattle.std.proofs.Common.{◌≡◌, ℕ, ◌+◌, ◌<◌, ◌≤◌, Bool, true, false, cond, not, ◌&&◌, ltb, leb, ◌⊎◌, Some, None, Ok, Err, Option, Result, sym, refl, ap, ◌∙◌, inl, inr, ⊎_elim, arith}
+use Rattle.std.proofs.Common.{◌≡◌, ℕ, ◌+◌, ◌<◌, ◌≤◌, Bool, true, false, cond, not, ◌&&◌, ltb, leb, Some, None, Ok, Err, Option, Result, sym, refl, ap, ◌∙◌, arith}
 use Rattle.std.proofs.lemmas.Bool.{ltb-true, ltb-false, leb-true, and_parts}
 use Rattle.model.specs.declared.fault.Reason.{Reason}
 use Rattle.model.specs.declared.fault.Reason.TheVariants.{CoreNotInService, BadRange, NoLabel, Mapped, Closing}
 use Rattle.model.specs.declared.fault.TreeFault.{TreeFault}
-use Rattle.model.specs.declared.page.PageState.{PageState}
-use Rattle.model.specs.declared.page.PageState.TheVariants as states
 use Rattle.model.specs.Pages.{closing_by, mapped_state}
 use Rattle.model.specs.Flat.{lowest}
 use Rattle.model.proofs.Lowest.{lowest_none}

@@ -1,5 +1,5 @@
 -- What each call answers, and the state that it leaves.
-use Rattle.std.specs.Prelude.{ℕ, ◌+◌, Bool, true, false, cond, Ok, Err, Result}
+use Rattle.std.specs.Prelude.{ℕ, ◌+◌, Ok, Err, Result}
 use Rattle.model.specs.declared.fault.SpaceFault.{SpaceFault}
 use Rattle.model.specs.Pages.{fresh}
 use Rattle.model.specs.Flat.{look_at}

@@ -1,5 +1,5 @@
 -- What the first map in a new space needs: the smallest runs of the rules.
-use Rattle.std.specs.Prelude.{◌≡◌, ℕ, ◌+◌, ◌<◌, ◌≤◌, Ok}
+use Rattle.std.specs.Prelude.{◌≡◌, ℕ, ◌+◌, ◌<◌, Ok}
 use Rattle.tree.specs.Need.{need}
 use Rattle.space.specs.States.{State, set_up_state}
 use Rattle.space.specs.Calls.{map_answer}

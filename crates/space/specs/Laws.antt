@@ -1,5 +1,5 @@
 -- What a caller of the space learns, in the words of the flat page map.
-use Rattle.std.specs.Prelude.{◌≡◌, ℕ, ◌+◌, ◌<◌, List, [], ◌∷◌, Ok, Err, Result}
+use Rattle.std.specs.Prelude.{◌≡◌, ℕ, ◌+◌, ◌<◌, Ok, Err, Result}
 use Rattle.model.specs.declared.fault.SpaceFault.{SpaceFault}
 use Rattle.model.specs.Flat.{all_vacant, map_range}
 use Rattle.model.specs.Sizes.{page_count}

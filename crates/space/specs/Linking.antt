@@ -1,5 +1,5 @@
 -- What links the parts of a space between calls.
-use Rattle.std.specs.Prelude.{◌≡◌, ℕ, ◌≤◌}
+use Rattle.std.specs.Prelude.{◌≡◌, ◌≤◌}
 use Rattle.counter.specs.Meaning.{Meaning}
 use Rattle.tree.specs.Pools.{Ready}
 use Rattle.tree.specs.Soundness as trees

@@ -1,5 +1,5 @@
 -- The memory as its users see it.
-use Rattle.std.specs.Prelude.{◌≡◌, ℕ, ◌-◌, Result}
+use Rattle.std.specs.Prelude.{ℕ, ◌-◌, Result}
 use Rattle.model.specs.declared.fault.SpaceFault.{SpaceFault}
 use Rattle.counter.specs.Meaning.{Meaning}
 use Rattle.counter.specs.Plain.{TableSteps}

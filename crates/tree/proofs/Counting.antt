@@ -1,10 +1,10 @@
 -- What operations make of a counter, one after another.
-use Rattle.std.proofs.Common.{◌≡◌, ℕ, suc, ◌+◌, Bool, true, false, cond, eqb, List, [], ◌∷◌, ◌++◌, is_some, Some, None, Option, sym, refl, ap, ◌∙◌, subst, arith}
+use Rattle.std.proofs.Common.{◌≡◌, ℕ, suc, ◌+◌, Bool, true, false, eqb, List, [], ◌∷◌, ◌++◌, is_some, Some, None, Option, sym, refl, ap, ◌∙◌, subst, arith}
 use Rattle.std.proofs.lemmas.Bool.{eq-eqb, ne_eqb, cond-true, cond-false}
 use Rattle.counter.specs.Meaning.{Meaning, Operation, how_many, given, raised, put_at}
 use Rattle.counter.specs.Meaning.Operation.{Revive}
 use Rattle.tree.specs.Fill.{revivals}
-use Rattle.tree.specs.Holders.{Changed, Told, Aside, Follows}
+use Rattle.tree.specs.Holders.{Changed, Aside, Follows}
 
 put_changed : (i : ℕ) (v : Option ℕ) (f : ℕ → Option ℕ) → Changed i v f (put_at i v f)
 put_changed i v f = record {

@@ -1,5 +1,5 @@
 -- Fills follow one another.
-use Rattle.std.proofs.Common.{◌≡◌, ℕ, ◌+◌, ◌-◌, ◌*◌, ◌/◌, ◌%◌, ◌<◌, ◌≤◌, ◌⊎◌, List, length, get_or, set, sym, refl, ap, ◌∙◌, subst, inl, inr, ⊎_elim, arith}
+use Rattle.std.proofs.Common.{◌≡◌, ℕ, ◌+◌, ◌/◌, ◌%◌, ◌<◌, ◌≤◌, List, length, sym, refl, ap, ◌∙◌, subst, ⊎_elim, arith}
 use Rattle.std.proofs.lemmas.Bool.{cases_eq, cases_lt}
 use Rattle.std.proofs.lemmas.List.{get_or_past}
 use Rattle.model.specs.declared.page.Mapping.{Mapping}
@@ -7,11 +7,11 @@ use Rattle.tree.specs.declared.slot.Slot.{Slot}
 use Rattle.tree.specs.declared.slot.Slot.TheVariants.{Vacant, Child, Value}
 use Rattle.tree.specs.declared.slot.Link.{Link}
 use Rattle.tree.specs.declared.table.Tree.{Tree}
-use Rattle.tree.specs.Nodes.{slot_at, link_at, no_link, down, slot_of}
+use Rattle.tree.specs.Nodes.{slot_at, link_at, no_link, slot_of}
 use Rattle.model.specs.Pages.{Within}
 use Rattle.tree.specs.Soundness.{Linked, Pooled, Sound, left}
 use Rattle.tree.specs.Walks.{Put, Hung, Keeps}
-use Rattle.tree.specs.Filled.{Filled, Free}
+use Rattle.tree.specs.Filled.{Filled}
 use Rattle.tree.specs.Walks.{Others, Entered}
 use Rattle.tree.specs.Need.{vacancy}
 use Rattle.tree.proofs.Places.{put_same, put_other}

@@ -1,16 +1,14 @@
 -- A drawn node is hung into a vacant slot.
-use Rattle.std.proofs.Common.{◌≡◌, ℕ, ◌+◌, ◌-◌, ◌*◌, ◌/◌, ◌%◌, ◌<◌, ◌≤◌, List, length, get_or, set, sym, refl, ap, ◌∙◌, subst, arith, length-set, get_or-set_other, get_or-set_same}
-use Rattle.model.specs.declared.page.Mapping.{Mapping}
-use Rattle.tree.specs.declared.slot.Slot.{Slot}
-use Rattle.tree.specs.declared.slot.Slot.TheVariants.{Vacant, Child, Value}
+use Rattle.std.proofs.Common.{◌≡◌, ℕ, ◌+◌, ◌*◌, ◌<◌, set, sym, refl, ap, ◌∙◌, subst, arith, get_or-set_other, get_or-set_same}
+use Rattle.tree.specs.declared.slot.Slot.TheVariants.{Vacant, Child}
 use Rattle.tree.specs.declared.slot.Link.{Link}
 use Rattle.tree.specs.declared.table.Tree.{Tree}
-use Rattle.tree.specs.Nodes.{slot_at, link_at, no_link, slot_of}
-use Rattle.tree.specs.Soundness.{Linked, Pooled, Sound, left}
+use Rattle.tree.specs.Nodes.{slot_at, link_at, no_link}
+use Rattle.tree.specs.Soundness.{Sound, left}
 use Rattle.tree.specs.declared.pool.Pool.{Pool}
-use Rattle.tree.specs.Pools.{next_object, drawn, unused}
+use Rattle.tree.specs.Pools.{next_object, drawn}
 use Rattle.tree.specs.Changes.{hung_from, grown}
-use Rattle.tree.specs.Walks.{Gives, Hung, Keeps}
+use Rattle.tree.specs.Walks.{Gives, Hung}
 use Rattle.tree.proofs.Places.{put_same, put_other}
 use Rattle.tree.proofs.Blocks.{grow_shows}
 use Rattle.tree.proofs.Keeping.{grow_linked, child_kept, pool_kept, pool_gives}

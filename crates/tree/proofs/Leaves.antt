@@ -1,5 +1,5 @@
 -- The steps of a fill.
-use Rattle.std.proofs.Common.{◌≡◌, ℕ, ◌+◌, ◌-◌, ◌*◌, ◌/◌, ◌%◌, ◌<◌, ◌≤◌, Bool, true, false, cond, eqb, ◌⊎◌, List, sym, refl, ap, ◌∙◌, subst, inl, inr, ⊎_elim, arith}
+use Rattle.std.proofs.Common.{◌≡◌, ℕ, ◌+◌, ◌-◌, ◌/◌, ◌%◌, ◌<◌, ◌≤◌, Bool, true, false, cond, List, sym, refl, ap, ◌∙◌, subst, arith}
 use Rattle.std.proofs.lemmas.Bool.{eqb-true}
 use Rattle.model.specs.declared.page.Mapping.{Mapping}
 use Rattle.tree.specs.declared.slot.Slot.{Slot}
@@ -16,7 +16,7 @@ use Rattle.tree.specs.Walks.{Others, LeafOf, Entered}
 use Rattle.tree.specs.Holders.{taken, holders}
 use Rattle.tree.proofs.Holding.{holders_gain}
 use Rattle.tree.proofs.Blocks.{level_2, level_3}
-use Rattle.tree.proofs.Filling.{filled_then, filled_none, leaf_filled, mid_filled, put_rest, put_here, put_left, entered_filled, live_small}
+use Rattle.tree.proofs.Filling.{filled_then, leaf_filled, mid_filled, put_rest, put_here, put_left, entered_filled}
 
 pub path_shows : (xs : List Slot) (p m n : ℕ) → slot_at xs 1 (p / 4096) ≡ Child m → slot_at xs m (p / 64 % 64) ≡ Child n → slot_of xs p ≡ slot_at xs n (p % 64)
 path_shows xs p m n a b =

@@ -1,13 +1,12 @@
 -- The turns of a fill under a middle node.
-use Rattle.std.proofs.Common.{◌≡◌, ℕ, ◌+◌, ◌-◌, ◌*◌, ◌/◌, ◌%◌, ◌<◌, ◌≤◌, min, ◌⊎◌, List, sym, refl, ap, ◌∙◌, subst, ⊎_elim, arith}
+use Rattle.std.proofs.Common.{◌≡◌, ℕ, ◌+◌, ◌-◌, ◌*◌, ◌/◌, ◌%◌, ◌<◌, ◌≤◌, min, refl, ap, ◌∙◌, ⊎_elim, arith}
 use Rattle.model.specs.declared.page.Mapping.{Mapping}
-use Rattle.tree.specs.declared.slot.Slot.{Slot}
-use Rattle.tree.specs.declared.slot.Slot.TheVariants.{Vacant, Child, Value}
+use Rattle.tree.specs.declared.slot.Slot.TheVariants.{Vacant, Child}
 use Rattle.tree.specs.declared.slot.Link.{Link}
 use Rattle.tree.specs.declared.table.Tree.{Tree}
-use Rattle.tree.specs.Nodes.{slot_at, link_at, slot_of}
-use Rattle.tree.specs.Soundness.{Sound, left}
-use Rattle.tree.specs.Need.{part, need_by, need_mid}
+use Rattle.tree.specs.Nodes.{slot_at, link_at}
+use Rattle.tree.specs.Soundness.{left}
+use Rattle.tree.specs.Need.{part, need_mid}
 use Rattle.tree.specs.Filled.{Filled, Free}
 use Rattle.tree.specs.Walks.{Others, Goes}
 use Rattle.tree.specs.Holders.{holders}

@@ -1,8 +1,8 @@
 -- One slot of the arena is set.
-use Rattle.std.proofs.Common.{◌≡◌, ℕ, ◌+◌, ◌*◌, ◌<◌, ◌⊎◌, List, length, get_or, set, sym, refl, ap, ◌∙◌, inl, inr, ⊎_elim, arith, get_or-set_other, get_or-set_same}
+use Rattle.std.proofs.Common.{◌≡◌, ℕ, ◌+◌, ◌*◌, ◌<◌, ◌⊎◌, List, length, get_or, set, ap, ◌∙◌, inl, inr, ⊎_elim, arith, get_or-set_other, get_or-set_same}
 use Rattle.std.proofs.lemmas.Bool.{cases_eq}
 use Rattle.tree.specs.declared.slot.Slot.{Slot}
-use Rattle.tree.specs.declared.slot.Slot.TheVariants.{Vacant, Child, Value}
+use Rattle.tree.specs.declared.slot.Slot.TheVariants.{Vacant}
 use Rattle.tree.specs.Nodes.{slot_at}
 
 pub put_same : (xs : List Slot) (n s : ℕ) (w : Slot) → length xs ≡ 4160 → n < 65 → s < 64 → slot_at (set xs (n * 64 + s) w) n s ≡ w

@@ -1,14 +1,12 @@
 -- A search passes over blocks that do not fit, and stops at the first that does.
-use Rattle.std.proofs.Common.{◌≡◌, ℕ, ◌+◌, ◌*◌, ◌/◌, ◌%◌, ◌<◌, ◌≤◌, Bool, true, false, cond, List, sym, refl, ap, ◌∙◌, arith}
-use Rattle.model.specs.declared.page.Mapping.{Mapping}
+use Rattle.std.proofs.Common.{◌≡◌, ℕ, ◌/◌, ◌%◌, Bool, true, false, cond, sym, refl, ap, ◌∙◌, arith}
 use Rattle.tree.specs.declared.look.Sought.{Sought}
 use Rattle.tree.specs.declared.look.Sought.TheVariants.{Mapped, Closing}
-use Rattle.tree.specs.declared.look.Seen.{Seen}
 use Rattle.tree.specs.declared.look.Seen.TheVariants.{Below, Fits, Passes}
 use Rattle.tree.specs.declared.slot.Slot.{Slot}
 use Rattle.tree.specs.declared.slot.Slot.TheVariants.{Vacant, Child, Value}
 use Rattle.tree.specs.declared.table.Tree.{Tree}
-use Rattle.tree.specs.Nodes.{slot_at, slot_of, state_of}
+use Rattle.tree.specs.Nodes.{slot_at, state_of}
 use Rattle.tree.specs.Search.{fits, found_at, seen_in}
 use Rattle.tree.proofs.Showing.{root_ends, middle_ends, leaf_ends}
 

@@ -1,12 +1,11 @@
 -- What a tree shows of a page.
-use Rattle.std.proofs.Common.{◌≡◌, ℕ, ◌+◌, ◌*◌, ◌/◌, ◌%◌, ◌<◌, ◌≤◌, Bool, true, false, cond, List, sym, refl, ap, ◌∙◌, subst, arith}
-use Rattle.model.specs.declared.page.Mapping.{Mapping}
-use Rattle.model.specs.Pages.{Within, Proper}
+use Rattle.std.proofs.Common.{◌≡◌, ℕ, ◌/◌, ◌%◌, ◌<◌, List, refl, ap, ◌∙◌, arith}
+use Rattle.model.specs.Pages.{Proper}
 use Rattle.tree.specs.declared.slot.Slot.{Slot}
 use Rattle.tree.specs.declared.slot.Slot.TheVariants.{Vacant, Child, Value}
 use Rattle.tree.specs.declared.slot.Link.{Link}
 use Rattle.tree.specs.declared.table.Tree.{Tree}
-use Rattle.tree.specs.Nodes.{slot_at, link_at, down, slot_of, state_of, shows}
+use Rattle.tree.specs.Nodes.{slot_at, down, slot_of, state_of}
 use Rattle.tree.specs.Soundness.{Linked, Sound}
 use Rattle.tree.proofs.Blocks.{level_2, level_3}
 use Rattle.tree.proofs.Filling.{live_small}

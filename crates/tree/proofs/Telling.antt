@@ -1,19 +1,18 @@
 -- The counter has the holders again.
-use Rattle.std.proofs.Common.{◌≡◌, ℕ, ◌+◌, ◌-◌, ◌*◌, ◌/◌, ◌%◌, ◌<◌, ◌≤◌, Bool, true, false, cond, eqb, ◌⊎◌, List, set, is_some, Some, None, Option, sym, refl, ap, ◌∙◌, subst, inl, inr, ⊎_elim, arith}
+use Rattle.std.proofs.Common.{◌≡◌, ℕ, ◌+◌, ◌<◌, Bool, true, false, eqb, List, is_some, Some, Option, sym, refl, ap, ◌∙◌, subst, ⊎_elim, arith}
 use Rattle.std.proofs.lemmas.Bool.{cases_eq, cond-false, ne_eqb}
 use Rattle.model.specs.declared.page.Mapping.{Mapping}
 use Rattle.tree.specs.declared.slot.Slot.{Slot}
-use Rattle.tree.specs.declared.slot.Slot.TheVariants.{Vacant, Child, Value}
+use Rattle.tree.specs.declared.slot.Slot.TheVariants.{Vacant, Child}
 use Rattle.tree.specs.declared.slot.Link.{Link}
 use Rattle.tree.specs.declared.table.Tree.{Tree}
 use Rattle.tree.specs.Nodes.{slot_at, link_at}
 use Rattle.tree.specs.Soundness.{Sound}
 use Rattle.tree.specs.Walks.{Put, Hung}
-use Rattle.tree.specs.Filled.{Filled}
 use Rattle.tree.specs.Walks.{Others}
 use Rattle.counter.specs.Meaning.{how_many}
 use Rattle.tree.specs.Holders.{taken, held, holders, Changed, Counted, CountedBut, Told}
-use Rattle.tree.proofs.Filling.{put_here, put_rest, live_small}
+use Rattle.tree.proofs.Filling.{put_here, put_rest}
 use Rattle.tree.proofs.Places.{put_same, put_other}
 use Rattle.tree.proofs.Holding.{holders_same, holders_gain, held_none, holders_small}
 

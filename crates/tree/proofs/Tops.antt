@@ -1,19 +1,19 @@
 -- The turns of a fill under the root.
-use Rattle.std.proofs.Common.{◌≡◌, ℕ, ◌+◌, ◌-◌, ◌*◌, ◌/◌, ◌%◌, ◌<◌, ◌≤◌, min, Bool, true, false, cond, eqb, List, sym, refl, ap, ◌∙◌, subst, arith}
+use Rattle.std.proofs.Common.{◌≡◌, ℕ, ◌+◌, ◌-◌, ◌*◌, ◌/◌, ◌%◌, ◌<◌, ◌≤◌, min, true, false, eqb, List, sym, refl, ap, ◌∙◌, subst, arith}
 use Rattle.std.proofs.lemmas.Bool.{cond-true, cond-false}
 use Rattle.model.specs.declared.page.Mapping.{Mapping}
 use Rattle.tree.specs.declared.slot.Slot.{Slot}
 use Rattle.tree.specs.declared.slot.Slot.TheVariants.{Vacant, Child, Value}
 use Rattle.tree.specs.declared.slot.Link.{Link}
 use Rattle.tree.specs.declared.table.Tree.{Tree}
-use Rattle.tree.specs.Nodes.{slot_at, link_at, slot_of}
+use Rattle.tree.specs.Nodes.{slot_at, link_at}
 use Rattle.tree.specs.Soundness.{Sound, left}
 use Rattle.model.specs.Pages.{Within}
 use Rattle.tree.specs.Walks.{Put}
-use Rattle.tree.specs.Need.{covers, vacancy, part, need_by, need_mid, root_part, need}
+use Rattle.tree.specs.Need.{covers, vacancy, need_by, need_mid, root_part, need}
 use Rattle.tree.specs.Filled.{Filled, Free}
 use Rattle.tree.specs.Walks.{Others, Entered, Beside}
-use Rattle.tree.proofs.Filling.{filled_then, entered_filled, root_filled, put_left, put_rest}
+use Rattle.tree.proofs.Filling.{filled_then, root_filled, put_left, put_rest}
 use Rattle.tree.proofs.Leaves.{covers_true}
 use Rattle.tree.proofs.Needing.{need_same, root_split, root_same}
 use Rattle.tree.proofs.Blocks.{level_2}

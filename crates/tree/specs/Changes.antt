@@ -1,7 +1,7 @@
 -- What one step makes of a tree: a new tree, a slot written, a child grown.
-use Rattle.std.specs.Prelude.{ℕ, ◌+◌, ◌*◌, List, replicate, slice_set}
+use Rattle.std.specs.Prelude.{ℕ, ◌+◌, ◌*◌, replicate, slice_set}
 use Rattle.tree.specs.declared.slot.Slot.{Slot}
-use Rattle.tree.specs.declared.slot.Slot.TheVariants.{Vacant, Child, Value}
+use Rattle.tree.specs.declared.slot.Slot.TheVariants.{Vacant, Child}
 use Rattle.tree.specs.declared.pool.Pool.{Pool}
 use Rattle.tree.specs.declared.table.Tree.{Tree}
 use Rattle.tree.specs.Pools.{full, next_object, drawn}

@@ -1,7 +1,7 @@
 -- The law of a fill: exactly the range comes to show the value.
 use Rattle.std.specs.Prelude.{◌≡◌, ℕ, ◌<◌, ◌≤◌}
 use Rattle.model.specs.declared.page.Mapping.{Mapping}
-use Rattle.tree.specs.declared.slot.Slot.TheVariants.{Vacant, Child, Value}
+use Rattle.tree.specs.declared.slot.Slot.TheVariants.{Vacant, Value}
 use Rattle.tree.specs.declared.table.Tree.{Tree}
 use Rattle.tree.specs.Nodes.{link_at, slot_of}
 use Rattle.tree.specs.Soundness.{Sound}

@@ -1,5 +1,5 @@
 -- Pools of numbered objects.
-use Rattle.std.specs.Prelude.{◌≡◌, ℕ, ◌+◌, ◌-◌, ◌<◌, ◌≤◌, cond, replicate, nat_lt, slice_index}
+use Rattle.std.specs.Prelude.{ℕ, ◌+◌, ◌-◌, ◌<◌, ◌≤◌, cond, replicate, nat_lt, slice_index}
 use Rattle.tree.specs.declared.pool.Pool.{Pool}
 
 -- all of the objects 1 to `size`, none returned yet

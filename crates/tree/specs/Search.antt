@@ -1,5 +1,5 @@
 -- What is looked for in a range of pages.
-use Rattle.std.specs.Prelude.{◌≡◌, ℕ, ◌<◌, ◌≤◌, Bool, true, false, cond}
+use Rattle.std.specs.Prelude.{◌≡◌, ℕ, ◌<◌, ◌≤◌, Bool, false, cond}
 use Rattle.model.specs.declared.page.PageState.{PageState}
 use Rattle.model.specs.Pages.{closing_by, mapped_state}
 use Rattle.tree.specs.declared.look.Sought.{Sought}

@@ -1,6 +1,5 @@
 use Rattle.std.proofs.Common.{◌≡◌, ℕ, ◌+◌, ◌-◌, ◌*◌, true, List, [], ◌∷◌, ◌++◌, take, drop, is_err, sym, refl, ap, ◌∙◌, arith}
 use Rattle.std.proofs.lemmas.Result.{err_from_is_err_and, IfOk-from_err}
-use Rattle.space.specs.States.{State}
 use Rattle.space.specs.Memories.{memory_state}
 use Rattle.script.specs.declared.answer.Reply.{Reply}
 use Rattle.script.specs.Playing.{record_at, record_after, reply_to, state_after, replies_to, records_in}

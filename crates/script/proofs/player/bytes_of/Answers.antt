@@ -1,7 +1,6 @@
-use Rattle.std.proofs.Common.{◌≡◌, ℕ, ◌+◌, List, [], ◌∷◌, ◌++◌, length, get_or, take, Ok, sym, ap, ◌∙◌, arith}
+use Rattle.std.proofs.Common.{ℕ, List, ◌++◌, get_or, take, Ok, sym, ap, ◌∙◌}
 use Rattle.std.proofs.lemmas.List.{take_more, take_all}
 use Rattle.script.specs.declared.answer.Reply.{Reply}
-use Rattle.script.specs.Replies.{reply_bytes}
 use Rattle.script.specs.Playing.{all_bytes}
 use Rattle.script.proofs.Playings.{no_bytes, bytes_more}
 use Rattle.script.proofs.player.bytes_of.Goals as goal

@@ -1,4 +1,4 @@
-use Rattle.std.proofs.Common.{◌≡◌, Result, refl, ap, ◌∙◌}
+use Rattle.std.proofs.Common.{Result, ap, ◌∙◌}
 use Rattle.model.specs.declared.call.Call.{Call}
 use Rattle.model.specs.declared.fault.Fault.{Fault}
 use Rattle.space.specs.Memories.{memory_state}

@@ -1,4 +1,4 @@
-use Rattle.std.proofs.Common.{◌≡◌, List, [], sym, subst}
+use Rattle.std.proofs.Common.{List, sym, subst}
 use Rattle.counter.specs.Meaning.{Operation}
 use Rattle.tree.specs.Holders.{Follows}
 use Rattle.tree.proofs.Counting.{changed_none, changed_more, raised_changed, raised_aside, aside_none, aside_then, follows_none, follows_one, follows_then, revivals_none, revivals_more}

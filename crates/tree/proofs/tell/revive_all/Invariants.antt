@@ -1,4 +1,4 @@
-use Rattle.std.proofs.Common.{◌≡◌, ℕ, ◌+◌, Some, None}
+use Rattle.std.proofs.Common.{◌+◌, Some}
 use Rattle.counter.specs.Meaning.{how_many}
 use Rattle.tree.specs.Holders.{Changed, Aside, Follows}
 use Rattle.tree.specs.Fill.{revivals}

@@ -1,5 +1,4 @@
-use Rattle.std.proofs.Common.{◌≡◌, ℕ, Bool, true, false, List, [], sym, refl, ap, subst, arith}
-use Rattle.counter.specs.Meaning.{Operation}
+use Rattle.std.proofs.Common.{Bool, sym, refl, subst}
 use Rattle.tree.specs.Holders.{Follows}
 use Rattle.tree.specs.Fill.{gain}
 use Rattle.tree.proofs.Counting.{raised_changed, raised_aside, aside_none, follows_none, follows_one, both_ways}

@@ -1,4 +1,4 @@
-use Rattle.std.proofs.Common.{None, refl, arith, rules}
+use Rattle.std.proofs.Common.{None, refl, rules}
 use Rattle.bank.proofs.ReloadFound.{once_none, pages_set, alone_hit, others_hit, vacated}
 use Rattle.bank.proofs.reload_row.ReloadRow.vacate.Goals as goal
 

@@ -1,5 +1,4 @@
 use Rattle.std.proofs.Common.{ap, ◌∙◌, ap₂}
-use Rattle.counter.specs.declared.epoch.Clock.{Clock}
 use Rattle.counter.specs.Clocks.{clock_folds}
 use Rattle.ledger.specs.States.{State, put_clock}
 use Rattle.ledger.specs.View.{state}

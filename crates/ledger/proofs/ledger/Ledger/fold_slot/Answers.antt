@@ -1,6 +1,5 @@
-use Rattle.std.proofs.Common.{◌≡◌, ℤ, nat_abs, Some, None, sym, ap, ◌∙◌, arith, rules}
+use Rattle.std.proofs.Common.{ℤ, sym, ap, ◌∙◌, arith}
 use borrow.Author.Differences.{ints}
-use Rattle.ledger.specs.Slots.{change_in}
 use Rattle.ledger.specs.Records.{after_fold}
 use Rattle.ledger.specs.States.{record_at}
 use Rattle.ledger.specs.View.{state}

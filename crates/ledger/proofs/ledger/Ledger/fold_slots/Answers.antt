@@ -1,4 +1,4 @@
-use Rattle.std.proofs.Common.{sym, ◌∙◌, subst, arith, rules}
+use Rattle.std.proofs.Common.{sym, ◌∙◌, subst, arith}
 use Rattle.ledger.specs.States.{Ready}
 use Rattle.ledger.specs.View.{state}
 use Rattle.ledger.proofs.Folding.{first_none, first_more, first_ready}

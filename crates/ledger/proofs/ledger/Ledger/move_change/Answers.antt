@@ -1,4 +1,4 @@
-use Rattle.std.proofs.Common.{◌≡◌, ◌+ℤ◌, ap, ◌∙◌, arith, rules}
+use Rattle.std.proofs.Common.{◌+ℤ◌, ap, ◌∙◌, arith}
 use borrow.Author.Differences.{ints}
 use Rattle.ledger.specs.Slots.{change_in, by_of}
 use Rattle.ledger.specs.View.{state}

@@ -1,4 +1,4 @@
-use Rattle.std.proofs.Common.{sym, ap, ◌∙◌, subst, arith, rules}
+use Rattle.std.proofs.Common.{sym, subst}
 use Rattle.ledger.specs.States.{State, slot_at, slot_of}
 use Rattle.ledger.specs.View.{state}
 use Rattle.ledger.proofs.Rooms.{Room, room_made}

@@ -1,4 +1,4 @@
-use Rattle.std.proofs.Common.{◌≡◌, ℕ, sym, refl, subst, rules}
+use Rattle.std.proofs.Common.{sym, refl, subst, rules}
 use Rattle.std.proofs.lemmas.Bool.{eqb-true, eq-eqb}
 use Rattle.model.specs.CoreSets.{Nobody}
 use Rattle.model.proofs.Sets.{none_member, nobody_zero}

@@ -1,8 +1,8 @@
-use Rattle.std.proofs.Common.{◌≡◌, ℕ, sym, ap, subst, arith}
+use Rattle.std.proofs.Common.{sym, ap, subst, arith}
 use lib.Bits.{bit_xor}
 use Rattle.std.proofs.lemmas.Nat.{one_shl}
 use Rattle.model.specs.CoreSets.{Left}
-use Rattle.model.proofs.Sets.{leave_member, absent_member}
+use Rattle.model.proofs.Sets.{leave_member}
 use Rattle.model.proofs.cores.CoreSet.without.Goals as goal
 
 pub returns : goal.returns

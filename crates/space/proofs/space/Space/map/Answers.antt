@@ -1,7 +1,6 @@
-use Rattle.std.proofs.Common.{◌≡◌, ℕ, ◌+◌, ◌<◌, Ok, sym, refl, ap, ◌∙◌, subst, arith}
+use Rattle.std.proofs.Common.{◌≡◌, ℕ, ◌+◌, ◌<◌, Ok, sym, ap, ◌∙◌, subst, arith}
 use Rattle.model.specs.declared.page.Mapping.{Mapping}
 use Rattle.model.specs.Pages.{Within, fresh}
-use Rattle.counter.specs.Meaning.{Operation}
 use Rattle.tree.specs.declared.table.Tree.{Tree}
 use Rattle.tree.specs.Filled.{Filled}
 use Rattle.tree.specs.Holders.{Follows}

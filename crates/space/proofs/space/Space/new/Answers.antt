@@ -1,8 +1,5 @@
-use Rattle.std.proofs.Common.{◌≡◌, ℕ, sym, refl, ap, ◌∙◌, subst, arith}
-use Rattle.tree.specs.declared.pool.Pool.{Pool}
-use Rattle.tree.specs.declared.table.Tree.{Tree}
-use Rattle.tree.specs.Pools.{full}
-use Rattle.space.specs.States.{State, before_set_up}
+use Rattle.std.proofs.Common.{sym, subst, arith}
+use Rattle.space.specs.States.{State}
 use Rattle.space.specs.Linking.{Agrees}
 use Rattle.space.proofs.Beginning.{begins, begun_state}
 use Rattle.space.proofs.space.Space.new.Goals as goal

@@ -1,4 +1,4 @@
-use Rattle.std.proofs.Common.{◌≡◌, ℕ, Bool, true, false, sym, refl, ap, ◌∙◌, subst, arith}
+use Rattle.std.proofs.Common.{Bool, sym, ap, ◌∙◌, subst}
 use Rattle.model.specs.declared.fault.Reason.TheVariants.{BadSetUp}
 use Rattle.space.specs.States.{State, state, set_up_state}
 use Rattle.space.specs.Checks.{unless}

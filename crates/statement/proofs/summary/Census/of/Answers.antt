@@ -1,4 +1,4 @@
-use Rattle.std.proofs.Common.{◌≡◌, ℕ, ◌+◌, sym, refl, ap, ◌∙◌, arith}
+use Rattle.std.proofs.Common.{ℕ, ◌+◌, sym, ap, ◌∙◌, arith}
 use Rattle.space.specs.Memories.{memory_state}
 use Rattle.statement.specs.declared.sight.Sight.{Sight}
 use Rattle.statement.specs.Sights.{is_mapped, is_closing}

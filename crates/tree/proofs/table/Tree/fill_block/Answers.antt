@@ -1,4 +1,4 @@
-use Rattle.std.proofs.Common.{◌≡◌, ℕ, ◌+◌, ◌-◌, ◌/◌, ◌%◌, ◌<◌, true, false, List, [], ◌∷◌, is_some, sym, refl, ap, ◌∙◌, subst, arith}
+use Rattle.std.proofs.Common.{◌≡◌, ℕ, ◌-◌, ◌/◌, ◌%◌, ◌<◌, List, [], ◌∷◌, is_some, sym, ap, ◌∙◌, subst, arith}
 use Rattle.counter.specs.Meaning.{Operation, how_many}
 use Rattle.counter.specs.Meaning.Operation.{Give}
 use Rattle.tree.proofs.Keeping.{vacant_child}

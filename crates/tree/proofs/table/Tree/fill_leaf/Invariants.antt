@@ -1,4 +1,4 @@
-use Rattle.std.proofs.Common.{◌≡◌, ℕ, ◌+◌, ◌-◌, ◌<◌}
+use Rattle.std.proofs.Common.{◌≡◌, ◌+◌, ◌-◌}
 use Rattle.tree.specs.Soundness.{left}
 use Rattle.tree.specs.Holders.{holders}
 use Rattle.tree.specs.Filled.{Filled}

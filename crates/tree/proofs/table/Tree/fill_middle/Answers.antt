@@ -1,4 +1,4 @@
-use Rattle.std.proofs.Common.{◌≡◌, ℕ, ◌+◌, ◌%◌, ◌<◌, ◌≤◌, List, sym, refl, ap, ◌∙◌, subst, arith}
+use Rattle.std.proofs.Common.{◌≡◌, ℕ, ◌%◌, ◌<◌, List, sym, refl, ap, ◌∙◌, subst, arith}
 use Rattle.counter.specs.Meaning.{Operation}
 use Rattle.tree.specs.Holders.{Follows}
 use Rattle.tree.specs.Fill.{blocks_met, fill_blocks, told_blocks}

@@ -1,4 +1,4 @@
-use Rattle.std.proofs.Common.{◌≡◌, ℕ, ◌+◌, ◌-◌, ◌<◌, ◌≤◌, false}
+use Rattle.std.proofs.Common.{◌≡◌, ◌+◌, ◌-◌, ◌<◌, ◌≤◌, false}
 use Rattle.tree.specs.Nodes.{link_at}
 use Rattle.tree.specs.Soundness.{left}
 use Rattle.tree.specs.Need.{need_mid}

@@ -1,4 +1,4 @@
-use Rattle.std.proofs.Common.{◌≡◌, ℕ, ◌+◌, ◌-◌, ◌/◌, ◌%◌, ◌<◌, ◌≤◌, true, false, List, [], ◌∷◌, Some, sym, refl, ap, ◌∙◌, subst, arith}
+use Rattle.std.proofs.Common.{◌≡◌, ℕ, ◌+◌, ◌-◌, ◌/◌, ◌<◌, true, List, [], ◌∷◌, Some, sym, refl, ap, ◌∙◌, subst, arith}
 use Rattle.counter.specs.Meaning.{Operation}
 use Rattle.counter.specs.Meaning.Operation.{Give, Revive}
 use Rattle.tree.specs.declared.slot.Link.{Link}
@@ -6,7 +6,7 @@ use Rattle.tree.specs.declared.table.Tree.{Tree}
 use Rattle.tree.specs.Nodes.{slot_at, link_at}
 use Rattle.tree.specs.Need.{vacancy}
 use Rattle.tree.specs.Holders.{Follows}
-use Rattle.tree.proofs.Filling.{filled_then, entered_filled, hung_entered, child_entered, live_small, live_some, not_same}
+use Rattle.tree.proofs.Filling.{filled_then, entered_filled, hung_entered, child_entered, live_some, not_same}
 use Rattle.tree.proofs.Leaves.{root_open, covers_true}
 use Rattle.tree.proofs.Counting.{given_changed, given_aside, raised_changed, raised_aside, aside_then, follows_one, follows_then}
 use Rattle.tree.proofs.Exact.{open_vacant, top_whole, top_grown, top_child, told_top_whole, told_top_grown, told_top_child}

@@ -1,4 +1,4 @@
-use Rattle.std.proofs.Common.{◌≡◌, ◌/◌, ◌%◌, sym, ap, ◌∙◌, subst, arith}
+use Rattle.std.proofs.Common.{sym, ap, ◌∙◌, subst, arith}
 use Rattle.model.specs.Pages.{Proper}
 use Rattle.tree.specs.Nodes.{state_of}
 use Rattle.tree.proofs.Showing.{proper_shown, root_ends, middle_ends, leaf_ends, middle_small, leaf_small}

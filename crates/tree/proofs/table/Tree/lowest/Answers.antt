@@ -1,9 +1,8 @@
-use Rattle.std.proofs.Common.{◌≡◌, ℕ, ◌+◌, ◌-◌, ◌*◌, ◌/◌, ◌%◌, ◌<◌, true, false, Some, None, sym, ap, ◌∙◌, ⊎_elim, arith}
+use Rattle.std.proofs.Common.{◌≡◌, ◌-◌, ◌/◌, ◌%◌, ◌<◌, true, Some, None, sym, ap, ◌∙◌, ⊎_elim, arith}
 use Rattle.std.proofs.lemmas.Bool.{cases_lt}
 use Rattle.model.proofs.Lowest.{lowest_is}
 use Rattle.tree.specs.Search.{found_at}
 use Rattle.tree.specs.Nodes.{slot_at}
-use Rattle.tree.proofs.Blocks.{level_2, level_3}
 use Rattle.tree.proofs.Showing.{middle_small, leaf_small}
 use Rattle.tree.proofs.Searching.{seen_fits, seen_below, top_says, middle_says, leaf_says}
 use Rattle.tree.proofs.table.Tree.lowest.Goals as goal

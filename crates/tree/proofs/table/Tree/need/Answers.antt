@@ -1,4 +1,4 @@
-use Rattle.std.proofs.Common.{◌-◌, ◌/◌, ◌%◌, refl, arith}
+use Rattle.std.proofs.Common.{◌-◌, ◌/◌, refl}
 use Rattle.tree.proofs.Needing.{top_head, top_both}
 use Rattle.tree.proofs.table.Tree.need.Goals as goal
 

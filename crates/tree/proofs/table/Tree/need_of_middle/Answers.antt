@@ -1,4 +1,4 @@
-use Rattle.std.proofs.Common.{◌/◌, ◌%◌, arith}
+use Rattle.std.proofs.Common.{◌%◌, arith}
 use Rattle.tree.specs.Nodes.{slot_at}
 use Rattle.tree.proofs.Needing.{mid_head, mid_both}
 use Rattle.tree.proofs.table.Tree.need_of_middle.Goals as goal

@@ -1,9 +1,7 @@
-use Rattle.std.proofs.Common.{◌≡◌, ℕ, sym, refl, ap, ◌∙◌, subst}
-use Rattle.tree.specs.declared.table.Tree.{Tree}
+use Rattle.std.proofs.Common.{sym, ap, ◌∙◌, subst}
 use Rattle.tree.specs.declared.pool.Pool.{Pool}
-use Rattle.tree.specs.Pools.{full, next_object, drawn}
+use Rattle.tree.specs.Pools.{next_object, drawn}
 use Rattle.tree.specs.Soundness.{Sound}
-use Rattle.tree.specs.Changes.{rooted, planted}
 use Rattle.tree.proofs.Starting.{planted_sound, planted_is}
 use Rattle.tree.proofs.table.Tree.new.Goals as goal
 
