@@ -12,12 +12,13 @@ import os
 import re
 import sys
 
-# Names that would fall together with another, or with a function's, and the word chosen instead.
+# Names that would fall together with another or with a function's, and one in camel case, with the words chosen instead.
 CHOSEN = {
     "Set-up": "WasSetUp",
     "first-maps": "first_maps_lem",
     "one-record": "one_record_lem",
     "record-bytes": "record_bytes_lem",
+    "entriesOf": "entries_of",
 }
 NAME = r"[A-Za-z][\w'-]*"
 TOKEN = re.compile(r"(?<![\w'.·-])" + NAME)
@@ -55,7 +56,7 @@ def defined(paths):
     for path in paths:
         text = read(path)
         goals = set(GOAL.findall(text))
-        names |= {n for n in TOP.findall(text) + TYPE.findall(text) if "-" in n and n not in goals}
+        names |= {n for n in TOP.findall(text) + TYPE.findall(text) if ("-" in n or n in CHOSEN) and n not in goals}
     return names
 
 

@@ -8,8 +8,8 @@ use Rattle.bank.specs.declared.reload_row.ReloadRow.{ReloadRow}
 use Rattle.bank.specs.ReloadEntries.{own, Taken, Vacated}
 
 -- the entries of a core
-abbrev pub entriesOf : List ReloadRow → ℕ → List (Option ReloadEntry)
-entriesOf rows c = slice_index_or (map (λ r. r.entries) rows) c []
+abbrev pub entries_of : List ReloadRow → ℕ → List (Option ReloadEntry)
+entries_of rows c = slice_index_or (map (λ r. r.entries) rows) c []
 
 -- the turn of a core
 abbrev pub turn_of : List ReloadRow → ℕ → ℕ
@@ -17,7 +17,7 @@ turn_of rows c = slice_index (map (λ r. r.turn) rows) c
 
 -- the frame that a core's own entries have for a page
 abbrev pub held : List ReloadRow → ℕ → ℕ → Option ℕ
-held rows c p = own (entriesOf rows c) p
+held rows c p = own (entries_of rows c) p
 
 -- the first where it shows a frame, else the second
 abbrev pub over : (ℕ → ℕ → Option ℕ) → (ℕ → ℕ → Option ℕ) → ℕ → ℕ → Option ℕ
@@ -39,13 +39,13 @@ Displaced c p (Some e) old new =
 pub record Took (c : ℕ) (e : ReloadEntry) (out : Option ReloadEntry) (old new : List ReloadRow) : Type 0 where
   pub row : ReloadRow
   pub writes : new ≡ slice_set old c row
-  pub takes : Taken e out (entriesOf old c) row.entries (turn_of old c) row.turn
+  pub takes : Taken e out (entries_of old c) row.entries (turn_of old c) row.turn
 
 -- exactly what dropping the page makes of the rows: only the core's row changes, and its turn stays
 pub record Vacates (c p : ℕ) (old new : List ReloadRow) : Type 0 where
   pub row : ReloadRow
   pub writes : new ≡ slice_set old c row
-  pub vacates : Vacated p (entriesOf old c) row.entries
+  pub vacates : Vacated p (entries_of old c) row.entries
   pub stays : row.turn ≡ turn_of old c
 
 -- install: the rows take e in, and what they displace is installed below, else the bank below is as it was
