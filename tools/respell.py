@@ -1,10 +1,12 @@
 #!/usr/bin/env python3
-"""Respells the repository's own definitions, lemmas and local names in specs/ and proofs/, once, after the kit's port.py.
+"""Respells the repository's own definitions, lemmas, record fields and local names, once, after the kit's port.py.
 
 usage: python3 tools/respell.py [FOLDER]      FOLDER has crates/; without it the current one
 
-A name of words joined by dashes gets underscores, or upper camel case where it names a fact or a type.
-Names that the check makes (goals, steps, invariants) and names of the library keep their dashes.
+It reads specs/ and proofs/ for the names, and turns them there and in the clauses of src/. A name of words joined by
+dashes gets underscores, or upper camel case where it names a fact or a type. Names that the check makes (goals, steps,
+invariants) keep their dashes, and so do names of the library, none of which is one of ours. A name cited through the
+alias of a module (`laws.one-record`) is left, and mended by hand.
 """
 
 import glob
@@ -12,7 +14,7 @@ import os
 import re
 import sys
 
-# Names that would fall together with another or with a function's, and one in camel case, with the words chosen instead.
+# Names that would fall together with another, a function's or a module's, and one in camel case, with the words chosen instead.
 CHOSEN = {
     "Set-up": "WasSetUp",
     "first-maps": "first_maps_lem",
@@ -21,7 +23,7 @@ CHOSEN = {
     "entriesOf": "entries_of",
 }
 NAME = r"[A-Za-z][\w'-]*"
-TOKEN = re.compile(r"(?<![\w'.·-])" + NAME)
+TOKEN = re.compile(r"(?<![\w'.-])" + NAME)
 SHOWN = re.compile(r"(?<=\.)" + NAME)
 QUALIFIED = re.compile(r"(Rattle\.(?:[\w'-]+\.)+)(" + NAME + ")")
 TOP = re.compile(r"^ *(?:abbrev pub |abbrev |unfoldable pub |unfoldable |pub )?(" + NAME + r") :", re.M)
@@ -29,7 +31,7 @@ TYPE = re.compile(r"^pub (?:record|data) (" + NAME + ")", re.M)
 RECORD = re.compile(r"^pub record [^\n]*where\n((?:(?: +[^\n]*)?\n)+)", re.M)
 FIELD = re.compile(r"^ +pub (" + NAME + r") :", re.M)
 GOAL = re.compile(r"^(?:abbrev pub |pub )?(" + NAME + r") : goal\.", re.M)
-BOUND = re.compile(r"(?:\blet\s+|;\s+)(" + NAME + r")\s+(?::|=)|\((" + NAME + r"(?: " + NAME + r")*) :|\{(" + NAME + r"(?: " + NAME + r")*) :|λ ((?:\(?" + NAME + r",? ?)+)\)?\.")
+BOUND = re.compile(r"(?:\blet\s+|;\s+)(" + NAME + r")\s+(?::|=)|\((" + NAME + r"(?: " + NAME + r")*) :|\{(" + NAME + r"(?: " + NAME + r")*) :|λ \(?(" + NAME + r"(?:,? " + NAME + r")*)\)?\.")
 
 
 def respelled(name):
