@@ -1,8 +1,6 @@
 -- The flat page map, and what set up, map and look are on it.
 use Rattle.std.specs.Prelude.{◌≡◌, ℕ, zero, suc, ◌+◌, ◌<◌, ◌≤◌, Bool, true, false, cond, ◌&&◌, Some, None, Option, nat_le, nat_lt}
-use Rattle.model.specs.declared.page.PageState.{PageState}
-use Rattle.model.specs.declared.page.PageState.TheVariants.{Vacant, InUse}
-use Rattle.model.specs.Pages.{fresh, look_answer}
+use Rattle.model.specs.Pages.{PageState, fresh, look_answer}
 
 -- what each page is
 abbrev pub Flat : Type 0
@@ -10,7 +8,7 @@ Flat = ℕ → PageState
 
 -- set up: every page is vacant
 abbrev pub all_vacant : Flat
-all_vacant q = Vacant
+all_vacant q = None
 
 -- the page q is one of the `count` pages from `first`
 abbrev pub inside : ℕ → ℕ → ℕ → Bool
@@ -18,7 +16,7 @@ inside first count q = nat_le first q && nat_lt q (first + count)
 
 -- map: the pages of the range are mapped with the label, and all others are as they were
 abbrev pub map_range : ℕ → ℕ → ℕ → Flat → Flat
-map_range first count label m q = cond (inside first count q) (InUse (fresh label)) (m q)
+map_range first count label m q = cond (inside first count q) (Some (fresh label)) (m q)
 
 -- look: what is told of a page
 abbrev pub look_at : ℕ → Flat → ℕ

@@ -1,8 +1,10 @@
 -- What a page can be.
 use Rattle.std.specs.Prelude.{ℕ, ◌+◌, ◌*◌, ◌≤◌, Bool, false, not, is_some, Some, None, Option}
 use Rattle.model.specs.declared.page.Mapping.{Mapping}
-use Rattle.model.specs.declared.page.PageState.{PageState}
-use Rattle.model.specs.declared.page.PageState.TheVariants.{Vacant, InUse}
+
+-- the state of a page: what it has in use, or nothing where it is vacant
+abbrev pub PageState : Type 0
+PageState = Option Mapping
 
 -- mapped with a label, no frame and an empty core set
 abbrev pub fresh : ℕ → Mapping
@@ -10,13 +12,13 @@ fresh label = record { label = label; owner = None; frame = None; cores = record
 
 -- a core is unmapping the page
 abbrev pub closing_by : PageState → Bool
-closing_by Vacant = false
-closing_by (InUse m) = is_some m.owner
+closing_by None = false
+closing_by (Some m) = is_some m.owner
 
 -- the page is in use, and no core is unmapping it
 abbrev pub mapped_state : PageState → Bool
-mapped_state Vacant = false
-mapped_state (InUse m) = not (is_some m.owner)
+mapped_state None = false
+mapped_state (Some m) = not (is_some m.owner)
 
 -- an absent part counts 0
 abbrev pub frame_part : Option ℕ → ℕ
@@ -30,8 +32,8 @@ owner_part (Some c) = c + 1
 
 -- what a look answers of a page
 abbrev pub look_answer : PageState → ℕ
-look_answer Vacant = 0
-look_answer (InUse m) = m.label + 256 * frame_part m.frame + 16777216 * owner_part m.owner
+look_answer None = 0
+look_answer (Some m) = m.label + 256 * frame_part m.frame + 16777216 * owner_part m.owner
 
 -- the owner is one of 16 cores, the frame one of 1,024
 pub record Within (m : Mapping) : Type 0 where
@@ -40,5 +42,5 @@ pub record Within (m : Mapping) : Type 0 where
 
 -- a state that names only cores and frames that there are
 abbrev pub Proper : PageState → Type 0
-Proper Vacant = Unit {0}
-Proper (InUse m) = Within m
+Proper None = Unit {0}
+Proper (Some m) = Within m

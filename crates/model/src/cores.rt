@@ -4,7 +4,7 @@ ghost use Rattle.model.specs.CoreSets.{member, Joined, Left, United, Nobody, all
 use super::sizes::CORES;
 
 /// A set of cores: core c is in it exactly if bit c is set.
-#[derive(Clone, Copy)]
+#[derive(Clone, Copy, PartialEq, Eq, Debug)]
 pub struct CoreSet {
     pub bits: u16,
 }
@@ -22,10 +22,7 @@ impl CoreSet {
     pub fn contains(self, core: u8) -> bool
         ensures { result ≡ member self.bits core }
     {
-        if core >= CORES {
-            return false;
-        }
-        (self.bits >> core) % 2 == 1
+        core < CORES && (self.bits >> core) % 2 == 1
     }
 
     /// The set with one core more.

@@ -6,54 +6,54 @@ ghost use Rattle.model.specs.declared.fault.Fault.TheVariants.{Space};
 
 use super::page::Page;
 
-/// The part of the system that turned a call down.
-#[derive(Clone, Copy)]
+/// The part of the system that turned a call down, with the number under which it is reported.
+#[derive(Clone, Copy, PartialEq, Eq, Debug)]
 pub enum Part {
-    Space,
-    Tree,
-    FramePool,
-    Script,
+    Space = 1,
+    Tree = 2,
+    FramePool = 3,
+    Script = 4,
 }
 
 /// A fault of a pool of frames.
-#[derive(Clone, Copy)]
+#[derive(Clone, Copy, PartialEq, Eq, Debug)]
 pub enum PoolFault {
     NoFreeFrame { place: Option<Page> },
 }
 
 /// A fault of the tree, which keeps that of the pool.
-#[derive(Clone, Copy)]
+#[derive(Clone, Copy, PartialEq, Eq, Debug)]
 pub enum TreeFault {
     Pool(PoolFault),
     TooFewNodes { place: Option<Page> },
 }
 
-/// Why the space itself turned a call down.
-#[derive(Clone, Copy)]
+/// Why the space itself turned a call down, with the number under which it is reported. The parts below have 8, 9 and 15.
+#[derive(Clone, Copy, PartialEq, Eq, Debug)]
 pub enum Reason {
-    CoreNotInService,
-    BadRange,
-    NoLabel,
-    Mapped,
-    Closing,
-    Vacant,
-    NoFrame,
-    AlreadyOpen,
-    NoneOpen,
-    StillWaiting,
-    LastEpoch,
-    BadSetUp,
+    CoreNotInService = 1,
+    BadRange = 2,
+    NoLabel = 3,
+    Mapped = 4,
+    Closing = 5,
+    Vacant = 6,
+    NoFrame = 7,
+    AlreadyOpen = 10,
+    NoneOpen = 11,
+    StillWaiting = 12,
+    LastEpoch = 13,
+    BadSetUp = 14,
 }
 
 /// A fault of the space, which keeps that of the tree.
-#[derive(Clone, Copy)]
+#[derive(Clone, Copy, PartialEq, Eq, Debug)]
 pub enum SpaceFault {
     Tree(TreeFault),
     Refused { reason: Reason, place: Option<Page> },
 }
 
 /// A fault as the script's answers have it: the space's, or a record that says nothing.
-#[derive(Clone, Copy)]
+#[derive(Clone, Copy, PartialEq, Eq, Debug)]
 pub enum Fault {
     Space(SpaceFault),
     BadRecord,
@@ -88,20 +88,7 @@ impl Reason {
     pub fn number(self) -> u8
         ensures { result ≡ reason_number self }
     {
-        match self {
-            Reason::CoreNotInService => 1,
-            Reason::BadRange => 2,
-            Reason::NoLabel => 3,
-            Reason::Mapped => 4,
-            Reason::Closing => 5,
-            Reason::Vacant => 6,
-            Reason::NoFrame => 7,
-            Reason::AlreadyOpen => 10,
-            Reason::NoneOpen => 11,
-            Reason::StillWaiting => 12,
-            Reason::LastEpoch => 13,
-            Reason::BadSetUp => 14,
-        }
+        self as u8
     }
 }
 
@@ -110,12 +97,7 @@ impl Part {
     pub fn number(self) -> u8
         ensures { result ≡ part_number self }
     {
-        match self {
-            Part::Space => 1,
-            Part::Tree => 2,
-            Part::FramePool => 3,
-            Part::Script => 4,
-        }
+        self as u8
     }
 }
 
@@ -124,10 +106,9 @@ impl Fault {
         ensures { result ≡ number_of self }
     {
         match self {
-            Fault::Space(SpaceFault::Refused { reason, place: _ }) => reason.number(),
-            Fault::Space(SpaceFault::Tree(TreeFault::Pool(PoolFault::NoFreeFrame { place: _ }))) =>
-                8,
-            Fault::Space(SpaceFault::Tree(TreeFault::TooFewNodes { place: _ })) => 9,
+            Fault::Space(SpaceFault::Refused { reason, .. }) => reason.number(),
+            Fault::Space(SpaceFault::Tree(TreeFault::Pool(PoolFault::NoFreeFrame { .. }))) => 8,
+            Fault::Space(SpaceFault::Tree(TreeFault::TooFewNodes { .. })) => 9,
             Fault::BadRecord => 15,
         }
     }
@@ -136,14 +117,9 @@ impl Fault {
         ensures { result ≡ part_of self }
     {
         match self {
-            Fault::Space(
-                SpaceFault::Refused {
-                    reason: _,
-                    place: _,
-                },
-            ) => Part::Space,
+            Fault::Space(SpaceFault::Refused { .. }) => Part::Space,
             Fault::Space(SpaceFault::Tree(TreeFault::Pool(_))) => Part::FramePool,
-            Fault::Space(SpaceFault::Tree(TreeFault::TooFewNodes { place: _ })) => Part::Tree,
+            Fault::Space(SpaceFault::Tree(TreeFault::TooFewNodes { .. })) => Part::Tree,
             Fault::BadRecord => Part::Script,
         }
     }
@@ -152,7 +128,7 @@ impl Fault {
         ensures { result ≡ place_of self }
     {
         match self {
-            Fault::Space(SpaceFault::Refused { reason: _, place }) => place,
+            Fault::Space(SpaceFault::Refused { place, .. }) => place,
             Fault::Space(SpaceFault::Tree(TreeFault::Pool(PoolFault::NoFreeFrame { place }))) =>
                 place,
             Fault::Space(SpaceFault::Tree(TreeFault::TooFewNodes { place })) => place,

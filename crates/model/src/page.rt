@@ -1,4 +1,4 @@
-ghost use Rattle.std.specs.Prelude.{◌≡◌, ◌<◌, ◌≤◌};
+ghost use Rattle.std.specs.Prelude.{◌≡◌, Some};
 ghost use Rattle.model.specs.Pages.{fresh, closing_by, mapped_state, look_answer, Proper};
 
 use super::cores::CoreSet;
@@ -14,7 +14,7 @@ pub type Label = u8;
 pub type Epoch = u32;
 
 /// What a page in use has. With an owner it is closing, without one it is mapped.
-#[derive(Clone, Copy)]
+#[derive(Clone, Copy, PartialEq, Eq, Debug)]
 pub struct Mapping {
     pub label: Label,
     /// The core that is unmapping the page.
@@ -24,12 +24,8 @@ pub struct Mapping {
     pub cores: CoreSet,
 }
 
-/// The state of one page.
-#[derive(Clone, Copy)]
-pub enum PageState {
-    Vacant,
-    InUse(Mapping),
-}
+/// The state of one page: what it has in use, or nothing where it is vacant.
+pub type PageState = Option<Mapping>;
 
 impl Mapping {
     /// Mapped with a label, no frame and an empty core set.
@@ -43,45 +39,28 @@ impl Mapping {
             cores: CoreSet { bits: 0 },
         }
     }
-}
 
-impl PageState {
     /// Whether a core is unmapping the page.
     pub fn is_closing(self) -> bool
-        ensures { result ≡ closing_by self }
+        ensures { result ≡ closing_by (Some self) }
     {
-        match self {
-            PageState::Vacant => false,
-            PageState::InUse(mapping) => mapping.owner.is_some(),
-        }
+        self.owner.is_some()
     }
 
-    /// Whether the page is in use and no core is unmapping it.
+    /// Whether no core is unmapping the page.
     pub fn is_mapped(self) -> bool
-        ensures { result ≡ mapped_state self }
+        ensures { result ≡ mapped_state (Some self) }
     {
-        match self {
-            PageState::Vacant => false,
-            PageState::InUse(mapping) => mapping.owner.is_none(),
-        }
+        self.owner.is_none()
     }
 
     /// What a look answers: label + 256 × frame + 16,777,216 × (owner + 1), an absent part counting 0.
     pub fn answer(self) -> u32
-        requires { Proper self }
-        ensures { result ≡ look_answer self }
+        requires { Proper (Some self) }
+        ensures { result ≡ look_answer (Some self) }
     {
-        let PageState::InUse(mapping) = self else {
-            return 0;
-        };
-        let frame = match mapping.frame {
-            Some(frame) => frame as u32,
-            None => 0,
-        };
-        let owner = match mapping.owner {
-            Some(owner) => owner as u32 + 1,
-            None => 0,
-        };
-        mapping.label as u32 + 256 * frame + 16_777_216 * owner
+        let frame = self.frame.map_or(0, |frame| frame as u32);
+        let owner = self.owner.map_or(0, |owner| owner as u32 + 1);
+        self.label as u32 + 256 * frame + 16_777_216 * owner
     }
 }
