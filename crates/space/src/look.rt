@@ -17,6 +17,6 @@ impl<N: Counter<Nodes> + Drop> Space<N> {
         ensures { result ≡ look_answer_of page (state self.now) }
     {
         check_page(page)?;
-        Ok(self.tree.look(page).answer())
+        Ok(self.tree.look(page).map_or(0, |mapping| mapping.answer()))
     }
 }
