@@ -6,11 +6,11 @@ ghost use Rattle.space.specs.Laws.{SetUp, Accepted};
 ghost use Rattle.space.specs.Linking.{Sound};
 ghost use Rattle.space.specs.States.{state, before_set_up};
 
-use super::check::{good_set_up, refused};
+use super::check::check_set_up;
 use super::space::Space;
 use counter::counter::Counter;
 use counter::kind::Nodes;
-use model::fault::{Reason, SpaceFault};
+use model::fault::SpaceFault;
 use model::page::Epoch;
 use tree::pool::Pool;
 use tree::table::Tree;
@@ -54,9 +54,7 @@ impl<N: Counter<Nodes> + Drop> Space<N> {
         ensures accepted { Accepted result (SetUp cores epoch (N.Counter.meaning self.new.nodes) (state self.new)) self.old self.new }
         ensures sound { Sound N.Counter.meaning self.new }
     {
-        if !good_set_up(cores, frames, nodes) {
-            return Err(refused(Reason::BadSetUp));
-        }
+        check_set_up(cores, frames, nodes)?;
         self.cores = cores;
         self.epoch = epoch;
         self.frames = Pool::full(frames as usize);

@@ -5,17 +5,17 @@ use Rattle.space.specs.Checks.{unless}
 use Rattle.space.specs.Calls.{answer, after}
 use Rattle.space.specs.Linking.{Agrees}
 use Rattle.space.specs.Laws.{SetUp}
-use Rattle.space.proofs.Passing.{set_up_parts}
+use Rattle.space.proofs.Passing.{set_up_parts, passed}
 use Rattle.space.proofs.Beginning.{begins, begun_state, all_blank}
 use Rattle.space.proofs.space.Space.set_up.Goals as goal
 
 pub new-self-requires : goal.new-self-requires
 new-self-requires g c =
-    let p = set_up_parts c.args.cores c.args.frames c.args.nodes (sym c.if-not-good_set_up.ensures) in (p.2, p.3)
+    let p = set_up_parts c.args.cores c.args.frames c.args.nodes (passed c.args.cores c.args.frames c.args.nodes (sym c.check_set_up.ensures ∙ c.in_ok-check_set_up.was)) in (p.2, p.3)
 
 pub returns : goal.returns
 returns g c =
-    let good = sym c.if-not-good_set_up.ensures in
+    let good = passed c.args.cores c.args.frames c.args.nodes (sym c.check_set_up.ensures ∙ c.in_ok-check_set_up.was) in
     let p = set_up_parts c.args.cores c.args.frames c.args.nodes good in
     let is = begun_state c.args.cores c.args.frames c.args.nodes c.args.epoch c.full-self.result c.new-self.result c.full-self.ensures c.new-self.ensures.exact in
     record {
