@@ -32,20 +32,20 @@ impl<K: Kind> Counter<K> for PlainCount<K> {
 
     ghost steps = { λ s op t. TableSteps (table_of s) op (table_of t) };
 
-    ghost timely = { λ s p. TableTimely K.Kind.capacity (table_of s) p };
+    ghost timely = { λ s p. TableTimely K.Kind.CAPACITY (table_of s) p };
 
     ghost prompt = { Unit {0} };
 
-    ghost means = { λ s t op may step. plain_means K.Kind.capacity K.Kind.revives (table_of s) (table_of t) op (omega (arith, s.full, K.Kind.small.1)) may step };
+    ghost means = { λ s t op may step. plain_means K.Kind.CAPACITY K.Kind.REVIVES (table_of s) (table_of t) op (omega (arith, s.full, K.Kind.small.1)) may step };
 
-    ghost onward = { λ s t op p may step turn timely. plain_onward K.Kind.capacity K.Kind.revives (table_of s) (table_of t) op p (omega (arith, s.full, K.Kind.small.1)) may step turn timely };
+    ghost onward = { λ s t op p may step turn timely. plain_onward K.Kind.CAPACITY K.Kind.REVIVES (table_of s) (table_of t) op p (omega (arith, s.full, K.Kind.small.1)) may step turn timely };
 
     ghost bound = { λ prompt s p timely o is z. omega (arith, (timely o is z).soon) };
 
     fn start(cores: u8, epoch: u32) -> PlainCount<K>
         requires few { cores ≤ 16 }
         ensures means { table_meaning (table_of result) ≡ begun cores epoch }
-        ensures timely { (p : Timeline) → TableTimely K.Kind.capacity (table_of result) p }
+        ensures timely { (p : Timeline) → TableTimely K.Kind.CAPACITY (table_of result) p }
         ensures exact { table_of result ≡ blank_table cores epoch }
     {
         PlainCount {
