@@ -10,6 +10,7 @@ use model::fault::{Reason, SpaceFault};
 use model::page::{Core, Label, Page};
 use model::sizes::{CORES, FRAMES, NODES, PAGES};
 use tree::look::Sought;
+use tree::pages::Pages;
 use tree::table::Tree;
 
 // A call that the space turns down, with no place.
@@ -78,7 +79,7 @@ fn check_none(
     requires small { first + count ≤ 262144 }
     ensures { result ≡ unless_found (lowest (found_at sought tree.now) first count) reason }
 {
-    let found = tree.lowest(first, first + count, sought);
+    let found = tree.lowest(Pages::new(first, first + count), sought);
     if let Some(page) = found {
         return Err(SpaceFault::Refused {
             reason,
@@ -128,7 +129,7 @@ pub(super) fn check_map(
 {
     check_numbers(cores, core, label, first, count)?;
     check_vacant(tree, first, count)?;
-    tree.check_room(first, first + count)?;
+    tree.check_room(Pages::new(first, first + count))?;
     Ok(())
 }
 

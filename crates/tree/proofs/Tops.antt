@@ -13,9 +13,9 @@ use Rattle.tree.specs.Walks.{Put}
 use Rattle.tree.specs.Need.{covers, vacancy, need_by, need_mid, root_part, need}
 use Rattle.tree.specs.Filled.{Filled, Free}
 use Rattle.tree.specs.Walks.{Others, Entered, Beside}
-use Rattle.tree.proofs.Filling.{filled_then, root_filled, put_left, put_rest}
+use Rattle.tree.proofs.Filling.{filled_none, filled_then, root_filled, put_left, put_rest}
 use Rattle.tree.proofs.Leaves.{covers_true}
-use Rattle.tree.proofs.Needing.{need_same, root_split, root_same}
+use Rattle.tree.proofs.Needing.{ends_none, need_same, root_split, root_same}
 use Rattle.tree.proofs.Blocks.{level_2}
 
 part_all : (xs : List Slot) (x : Slot) (first last : ℕ) → true ≡ covers x (last - first) 4096 → root_part xs x first last ≡ 0
@@ -90,29 +90,37 @@ vacancy_first xs Vacant first last c =
 vacancy_first xs (Child k) first last c = omega arith
 vacancy_first xs (Value e) first last c = omega arith
 
+-- a fill of the range has come to the page `at`
+pub record Come (first last : ℕ) (e : Mapping) (old : Tree) (at : ℕ) (now : Tree) : Type 0 where
+  pub filled : Filled first at e old now
+  pub count : left now + need old.slots first last ≡ left old + need now.slots at last
+
+pub come_first : (first last : ℕ) (e : Mapping) (t : Tree) → Sound t → Come first last e t first t
+come_first first last e t ok = record { filled = filled_none first e t ok; count = refl }
+
+pub come_last : (first last : ℕ) (e : Mapping) (old now : Tree) → Come first last e old last now → left now + need old.slots first last ≡ left old
+come_last first last e old now u =
+    omega (arith, u.count, ends_none 4096 (omega arith) (λ a z. root_part now.slots (slot_at now.slots 1 (a / 4096)) a z) last last (omega arith))
+
 -- a turn from `at` to `stop`
 module _ (old now : Tree) (first last at stop : ℕ) (e : Mapping) (small : last ≤ 262144) (free : Free old first last)
     (room : need old.slots first last ≤ left old)
-    (from : first ≤ at) (to : at < last) (is : stop ≡ min last (at / 4096 * 4096 + 4096)) (f : Filled first at e old now)
-    (count : left now + need old.slots first last ≡ left old + need now.slots at last) where
+    (from : first ≤ at) (to : at < last) (is : stop ≡ min last (at / 4096 * 4096 + 4096)) (u : Come first last e old at now) where
   pub top_free : Free now at stop
-  top_free q x y = f.rest q (omega arith) (λ _ z. omega (arith, z)) ∙ free q (omega arith) (omega arith)
+  top_free q x y = u.filled.rest q (omega arith) (λ _ z. omega (arith, z)) ∙ free q (omega arith) (omega arith)
 
   split : need now.slots at last ≡ root_part now.slots (slot_at now.slots 1 (at / 4096)) at stop + need now.slots stop last
   split = root_split now.slots at last stop to is
 
   pub top_room : root_part now.slots (slot_at now.slots 1 (at / 4096)) at stop ≤ left now
-  top_room = omega (arith, split, count, room)
+  top_room = omega (arith, split, u.count, room)
 
   module _ (new : Tree) (g : Filled at stop e now new)
       (spent : left new + root_part now.slots (slot_at now.slots 1 (at / 4096)) at stop ≡ left now)
       (others : Others (Beside now (at / 4096)) now new) where
-    pub top_turn_filled : Filled first stop e old new
-    top_turn_filled = filled_then first at stop e old now new from (omega arith) f g
-
     later : need new.slots stop last ≡ need now.slots stop last
     later = root_same now.slots new.slots stop last (λ b h lo hi.
-        let ok = f.sound.linked in
+        let ok = u.filled.sound.linked in
         let hb : b < 64 = omega arith in
         let ne : b ≡ at / 4096 → ⊥ = λ x. omega (arith, x, lo, h, is) in (
           others 1 b hb (omega (arith, ok.root)) (omega (arith, ok.root), (λ _ x. ne x), (λ x. absurd (omega (arith, x, ok.root)))),
@@ -122,5 +130,8 @@ module _ (old now : Tree) (first last at stop : ℕ) (e : Mapping) (small : last
               others m t ht (omega (arith, lm)) (omega (arith, lm, ok.root), (λ x. absurd (omega (arith, x, lm, ok.root))), (λ _ x. ne (sym pm ∙ x))),
         ))
 
-    pub top_turn_count : left new + need old.slots first last ≡ left old + need new.slots stop last
-    top_turn_count = omega (arith, spent, count, split, later)
+    pub turn_come : Come first last e old stop new
+    turn_come = record {
+      filled = filled_then first at stop e old now new from (omega arith) u.filled g;
+      count = omega (arith, spent, u.count, split, later);
+    }

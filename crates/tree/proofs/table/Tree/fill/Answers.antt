@@ -1,82 +1,73 @@
-use Rattle.std.proofs.Common.{◌≡◌, ℕ, ◌<◌, List, sym, refl, ap, ◌∙◌, subst, arith}
-use Rattle.counter.specs.Meaning.{Operation}
-use Rattle.tree.specs.Holders.{Follows}
-use Rattle.tree.specs.Fill.{blocks_met, fill_tops, told_tops}
-use Rattle.tree.proofs.Counting.{aside_none, aside_then, follows_none, follows_then}
-use Rattle.tree.proofs.Exact.{turn_4096, tops_start, tops_turn, told_tops_start, told_tops_turn}
-use Rattle.tree.specs.Filled.{Filled}
-use Rattle.tree.proofs.Filling.{filled_none}
-use Rattle.tree.proofs.Needing.{root_none}
-use Rattle.tree.proofs.Tops.{top_free, top_room, top_turn_filled, top_turn_count}
+use Rattle.std.proofs.Common.{◌≡◌, ℕ, ◌+◌, ◌-◌, ◌*◌, ◌/◌, ◌<◌, min, sym, subst, arith}
+use Rattle.tree.proofs.Counting.{aside_none, aside_then}
+use Rattle.tree.proofs.Exact.{reached, turn, walk_start, walk_turn, walk_end, told_start, told_turn, told_end}
+use Rattle.tree.proofs.Tops.{Come, come_first, come_last, top_free, top_room, turn_come}
 use Rattle.tree.proofs.table.Tree.fill.Goals as goal
 
-pub loop-at-init : goal.loop-at-init
-loop-at-init g c = (
-  omega arith,
-  omega arith,
-  filled_none _ _ _ c.requires.sound,
-  refl,
-  c.requires.tallied.held,
-  c.requires.tallied.idle,
-  aside_none _,
-  tops_start c.args.first c.args.last c.args.e c.args.self.now,
-  subst (λ (os : List Operation). Follows g.C.Counter.steps os c.args.counter.now c.args.counter.now)
-      (sym (told_tops_start c.args.first c.args.last c.args.e c.args.self.now c.args.core)) (follows_none g.C.Counter.steps _),
-  λ h. absurd (omega (arith, h)),
-)
+pub loop-top-init : goal.loop-top-init
+loop-top-init g c =
+    let b = c.first_block-top.ensures in
+    let at : c.args.pages.first ≡ reached 4096 c.args.pages.first c.args.pages.last c.first_block-top.result = omega (arith, b) in
+    record {
+      tree = subst (λ (x : ℕ). Come c.args.pages.first c.args.pages.last c.args.e c.args.self.now x c.args.self.now) at (come_first _ _ _ _ c.requires.sound);
+      exact = walk_start 4096 _ _ _ _ _ b;
+      told = told_start 4096 _ _ _ _ g.C.Counter.steps _ _ _ b;
+      counted = c.requires.tallied.held;
+      idle = c.requires.tallied.idle;
+      aside = aside_none _;
+    }
 
 pub fill_top-requires : goal.fill_top-requires
 fill_top-requires g c =
-    let i = c.loop-at.invariant in
-    let to = c.loop-at-test.true in
-    let is = c.top_end-stop.ensures in
+    let i = c.loop-top.invariant in
+    let part = c.in_block.result in
+    let in_block = c.in_block.ensures in
+    let at : reached 4096 c.args.pages.first c.args.pages.last c.loop-top.top ≡ part.first = omega (arith, in_block, part.some) in
+    let come = subst (λ (x : ℕ). Come c.args.pages.first c.args.pages.last c.args.e c.args.self.now x c.loop-top.self) at i.tree in
+    let stop : part.last ≡ min c.args.pages.last (part.first / 4096 * 4096 + 4096) = omega (arith, in_block) in
     record {
-      sound = i.2.sound;
+      sound = come.filled.sound;
       fits = c.requires.fits;
-      some = omega arith;
-      small = omega arith;
-      block = omega arith;
-      free = top_free _ _ _ _ c.loop-at.at c.top_end-stop.result _ c.requires.small c.requires.free c.requires.room i.0 to is i.2 i.3;
-      room = top_room _ _ _ _ c.loop-at.at c.top_end-stop.result _ c.requires.small c.requires.free c.requires.room i.0 to is i.2 i.3;
-      core = subst (λ (x : ℕ). c.args.core < x) (sym i.6.cores) c.requires.core;
-      counted = i.4;
-      idle = i.5;
+      block = omega (arith, in_block);
+      free = top_free _ _ _ _ part.first part.last _ c.args.pages.small c.requires.free c.requires.room (omega (arith, in_block)) (omega (arith, in_block, part.some)) stop come;
+      room = top_room _ _ _ _ part.first part.last _ c.args.pages.small c.requires.free c.requires.room (omega (arith, in_block)) (omega (arith, in_block, part.some)) stop come;
+      core = subst (λ (x : ℕ). c.args.core < x) (sym i.aside.cores) c.requires.core;
+      counted = i.counted;
+      idle = i.idle;
     }
 
-pub loop-at-preserved : goal.loop-at-preserved
-loop-at-preserved g c =
-    let i = c.loop-at.invariant in
-    let to = c.loop-at-test.true in
-    let is = c.top_end-stop.ensures in
+pub loop-top-preserved : goal.loop-top-preserved
+loop-top-preserved g c =
+    let i = c.loop-top.invariant in
+    let part = c.in_block.result in
+    let in_block = c.in_block.ensures in
     let b = c.fill_top.ensures in
-    let t = turn_4096 c.args.first c.args.last c.loop-at.at c.top_end-stop.result i.0 to (λ lt. i.9 lt to) is in (
-      omega arith,
-      omega arith,
-      top_turn_filled _ _ _ _ c.loop-at.at c.top_end-stop.result _ c.requires.small c.requires.free c.requires.room i.0 to is i.2 i.3 _ b.filled b.left b.others,
-      top_turn_count _ _ _ _ c.loop-at.at c.top_end-stop.result _ c.requires.small c.requires.free c.requires.room i.0 to is i.2 i.3 _ b.filled b.left b.others,
-      b.counted,
-      b.idle,
-      aside_then _ _ _ i.6 b.aside,
-      tops_turn c.args.first c.args.last c.args.e c.args.self.now c.loop-at.at c.top_end-stop.result c.loop-at.self c.fill_top.new.self t i.7 b.exact,
-      subst (λ (os : List Operation). Follows g.C.Counter.steps os c.args.counter.now c.fill_top.new.counter)
-          (sym (told_tops_turn c.args.first c.args.last c.args.e c.args.self.now c.args.core c.loop-at.at c.top_end-stop.result c.loop-at.self t i.7))
-          (follows_then g.C.Counter.steps _ _ _ _ _ i.8 b.told),
-      λ _ lt. omega (arith, lt, is),
-    )
-
-pub loop-at-smaller : goal.loop-at-smaller
-loop-at-smaller g c = let is = c.top_end-stop.ensures in omega arith
+    let at : reached 4096 c.args.pages.first c.args.pages.last c.loop-top.top ≡ part.first = omega (arith, in_block, part.some) in
+    let to : part.last ≡ reached 4096 c.args.pages.first c.args.pages.last (c.loop-top.top + 1) = omega (arith, in_block, part.some) in
+    let come = subst (λ (x : ℕ). Come c.args.pages.first c.args.pages.last c.args.e c.args.self.now x c.loop-top.self) at i.tree in
+    let stop : part.last ≡ min c.args.pages.last (part.first / 4096 * 4096 + 4096) = omega (arith, in_block) in
+    let next = turn_come _ _ _ _ part.first part.last _ c.args.pages.small c.requires.free c.requires.room (omega (arith, in_block)) (omega (arith, in_block, part.some)) stop come _ b.filled b.left b.others in
+    let t = turn 4096 c.args.pages.first c.args.pages.last c.loop-top.top part.first part.last (omega arith) in_block.first in_block.last in
+    record {
+      tree = subst (λ (x : ℕ). Come c.args.pages.first c.args.pages.last c.args.e c.args.self.now x c.fill_top.new.self) to next;
+      exact = walk_turn 4096 _ _ _ _ _ _ _ _ _ t i.exact b.exact;
+      told = told_turn 4096 _ _ _ _ g.C.Counter.steps _ _ _ _ _ _ _ _ t i.exact i.told b.told;
+      counted = b.counted;
+      idle = b.idle;
+      aside = aside_then _ _ _ i.aside b.aside;
+    }
 
 pub returns : goal.returns
 returns g c =
-    let i = c.loop-at.invariant in
-    let end : c.loop-at.at ≡ c.args.last = omega arith in
-    let z = root_none c.loop-at.self.slots c.loop-at.at c.args.last (omega arith) in
+    let i = c.loop-top.invariant in
+    let end : c.loop-top.top ≡ (c.args.pages.last - 1) / 4096 + 1 = omega arith in
+    let at : reached 4096 c.args.pages.first c.args.pages.last c.loop-top.top ≡ c.args.pages.last = omega (arith, end) in
+    let come = subst (λ (x : ℕ). Come c.args.pages.first c.args.pages.last c.args.e c.args.self.now x c.loop-top.self) at i.tree in
     record {
-      exact = i.7 ∙ ap (λ (x : ℕ). fill_tops c.args.first c.args.last c.args.e (blocks_met 4096 c.args.first x) c.args.self.now) end;
-      told = subst (λ (x : ℕ). Follows g.C.Counter.steps (told_tops c.args.core c.args.first c.args.last c.args.e (blocks_met 4096 c.args.first x) c.args.self.now) c.args.counter.now c.loop-at.counter) end i.8;
-      filled = subst (λ (x : ℕ). Filled c.args.first x c.args.e c.args.self.now c.loop-at.self) end i.2;
-      left = omega (arith, i.3, z);
-      tallied = record { held = i.4; idle = i.5 };
-      aside = i.6;
+      exact = walk_end 4096 _ _ _ _ _ _ c.args.pages.some end i.exact;
+      told = told_end 4096 _ _ _ _ g.C.Counter.steps _ _ _ _ c.args.pages.some end i.told;
+      filled = come.filled;
+      left = come_last _ _ _ _ _ come;
+      tallied = record { held = i.counted; idle = i.idle };
+      aside = i.aside;
     }
