@@ -10,6 +10,7 @@ use model::fault::{Reason, SpaceFault};
 use model::page::{Core, Label, Page};
 use model::sizes::{CORES, FRAMES, NODES, PAGES};
 use tree::look::Sought;
+use tree::pages::Pages;
 use tree::table::Tree;
 
 // Turns a call down for a reason, with no place, unless all is fine.
@@ -64,7 +65,7 @@ fn check_none(
     requires small { first + count ≤ 262144 }
     ensures { result ≡ unless_found (lowest (found_at sought tree.now) first count) reason }
 {
-    let found = tree.lowest(first, first + count, sought);
+    let found = tree.lowest(Pages::new(first, first + count), sought);
     if let Some(page) = found {
         return Err(SpaceFault::Refused {
             reason,
@@ -114,7 +115,7 @@ pub(super) fn check_map(
 {
     check_numbers(cores, core, label, first, count)?;
     check_vacant(tree, first, count)?;
-    tree.check_room(first, first + count)?;
+    tree.check_room(Pages::new(first, first + count))?;
     Ok(())
 }
 

@@ -9,6 +9,7 @@ use counter::counter::Counter;
 use counter::kind::Nodes;
 use model::fault::SpaceFault;
 use model::page::{Core, Label, Mapping, Page};
+use tree::pages::Pages;
 
 impl<N: Counter<Nodes> + Drop> Space<N> {
     /// Maps the pages of a range with a label, no frame and an empty core set.
@@ -27,8 +28,7 @@ impl<N: Counter<Nodes> + Drop> Space<N> {
         self.tree.fill(
             &mut self.nodes,
             core,
-            first,
-            first + count,
+            Pages::new(first, first + count),
             Mapping::fresh(label),
         );
         Ok(0)
