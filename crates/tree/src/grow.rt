@@ -33,7 +33,7 @@ impl Tree {
         }
     }
 
-    /// Slot s of node n.
+    /// Slot s of node n. They stay two numbers: a walk would make a new pair at each step down, with the same bounds to show.
     pub(super) fn at(&self, n: NodeId, s: u32) -> Slot
         requires { (n < 65) × (s < 64) }
         ensures { result ≡ slot_at self.now.slots n s }
