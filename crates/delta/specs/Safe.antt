@@ -347,18 +347,22 @@ since_other : (k : Clock) (r : Record) (core c : ℕ) → c ≢ core → folded_
 unfolding folded_since
 since_other k r core c ne = rw (joined_other k.folded.bits core c ne) refl
 
+-- another clock, and the tables stay ready
+clock_ready : (k : Clock) (st : State) → k.cores ≤ 16 → Ready st → Ready (put_clock k st)
+clock_ready k st few ready = record {
+  room = ready.room;
+  wide = ready.wide;
+  within = ready.within;
+  named = ready.named;
+  known = ready.known;
+  few = ready.few;
+  cores = few;
+}
+
 -- a core has folded, once its slots are empty
 folded_sound : (core : ℕ) (st : State) → ((j : ℕ) → j < 16 → slot_at st (place core j) ≡ None) → Sound st → Sound (put_clock (clock_folds core st.clock) st)
 folded_sound core st empty sound = record {
-  ready = record {
-    room = sound.ready.room;
-    wide = sound.ready.wide;
-    within = sound.ready.within;
-    named = sound.ready.named;
-    known = sound.ready.known;
-    few = sound.ready.few;
-    cores = sound.ready.cores;
-  };
+  ready = clock_ready _ st sound.ready.cores sound.ready;
   held = sound.held;
   least = sound.least;
   quiet = λ o some pend.
@@ -404,15 +408,7 @@ pub close_sound : (core : ℕ) (st : State) → Sound st → member st.clock.fol
 close_sound core st sound f =
     cond_both (last_to_close core st.clock) (clock_turned st.clock) (clock_marked core st.clock) (λ (k : Clock). Sound (put_clock k st))
     (λ last. record {
-      ready = record {
-        room = sound.ready.room;
-        wide = sound.ready.wide;
-        within = sound.ready.within;
-        named = sound.ready.named;
-        known = sound.ready.known;
-        few = sound.ready.few;
-        cores = sound.ready.cores;
-      };
+      ready = clock_ready _ st sound.ready.cores sound.ready;
       held = sound.held;
       least = sound.least;
       quiet = λ o some pend.
@@ -422,15 +418,7 @@ close_sound core st sound f =
       after = λ c e. absurd (both_ways _ (none_member c) e);
     })
     (λ _. record {
-      ready = record {
-        room = sound.ready.room;
-        wide = sound.ready.wide;
-        within = sound.ready.within;
-        named = sound.ready.named;
-        known = sound.ready.known;
-        few = sound.ready.few;
-        cores = sound.ready.cores;
-      };
+      ready = clock_ready _ st sound.ready.cores sound.ready;
       held = sound.held;
       least = sound.least;
       quiet = λ o some pend.

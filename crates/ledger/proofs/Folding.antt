@@ -1,5 +1,5 @@
 -- A slot folded: no number of holders changes, and the tables stay ready.
-use Rattle.std.proofs.Common.{◌≡◌, ℕ, zero, suc, ◌+◌, ◌<◌, ◌≤◌, Bool, true, false, cond, ◌≢◌, length, get_or, set, ℤ, pos, ◌+ℤ◌, nat_abs, is_some, Some, None, Option, sym, refl, ap, ◌∙◌, ⊎_elim, add-one, arith, length-set, get_or-set_other, get_or-set_same}
+use Rattle.std.proofs.Common.{◌≡◌, ℕ, zero, suc, ◌<◌, ◌≤◌, Bool, true, false, cond, ◌≢◌, length, get_or, set, ℤ, pos, ◌+ℤ◌, nat_abs, is_some, Some, None, Option, sym, refl, ap, ◌∙◌, ⊎_elim, arith, length-set, get_or-set_other, get_or-set_same}
 use borrow.Author.Differences.{ints}
 use Rattle.std.proofs.lemmas.Bool.{cases_eq, both_ways}
 use Rattle.ledger.specs.declared.slot.Delta.{Delta}
@@ -26,18 +26,6 @@ pub fold_cases : (P : State → Type 0) (core i : ℕ) (st : State) → (slot_at
     ((d : Delta) → slot_at st (place core i) ≡ Some d → P (reported core (place core i) (Some d) st)) → P (fold_slot core i st)
 unfolding fold_slot
 fold_cases P core i st none some = by_slot P core (place core i) st (slot_at st (place core i)) none some
-
--- as the code folds a slot
-pub folds_some : (core i : ℕ) (st : State) (d : Delta) (r : Record) (rows : _) →
-    Some d ≡ slot_at st (place core i) → r ≡ after_fold core st.clock.epoch d.change (record_at st d.object) →
-    rows ≡ set st.rows (place core i) None →
-    record { records = set st.records d.object r; rows = rows; clock = st.clock } ≡ fold_slot core i st
-unfolding fold_slot
-folds_some core i st d r rows e f g = rw (← e, f, g) refl
-
-pub folds_none : (core i : ℕ) (st : State) → slot_at st (place core i) ≡ None → st ≡ fold_slot core i st
-unfolding fold_slot
-folds_none core i st e = rw e refl
 
 pick_shared : (a b : Bool) (core epoch : ℕ) (r : Record) → (cond a (disturbed_by r) (cond b (enlisted core epoch r) r)).shared ≡ r.shared
 pick_shared true b core epoch r = refl
@@ -114,14 +102,6 @@ fold_empties core i st lt =
     fold_cases (λ t. slot_at t (place core i) ≡ None) core i st (λ e. e) (λ d is. get_or-set_same st.rows (place core i) None None lt)
 
 -- The first slots of a core, in order
-
-pub first_none : (core : ℕ) (st : State) → st ≡ fold_first core 0 st
-unfolding fold_first
-first_none core st = refl
-
-pub first_more : (core i : ℕ) (st t : State) → t ≡ fold_first core i st → fold_slot core i t ≡ fold_first core (i + 1) st
-unfolding fold_first
-first_more core i st t e = rw (add-one, e) refl
 
 -- what folding one slot keeps, folding several keeps
 pub first_keeps : (P : State → Type 0) (core i : ℕ) (st : State) → ((j : ℕ) (t : State) → j < i → P t → P (fold_slot core j t)) → P st → P (fold_first core i st)
