@@ -10,7 +10,7 @@ use Rattle.counter.specs.Timeline.{Timeline, note_loss, note_judgement, note_epo
 use Rattle.counter.specs.Clocks.{clock_meaning, clock_turned, clock_marked, last_to_close}
 use Rattle.counter.specs.Plain.{Table, count_at, table_meaning, unheld, put_count, at_clock, table_after, TableSteps, TableTimely}
 use Rattle.counter.specs.ClocksLemmas.{folds_means, closes_means, last_means}
-use Rattle.counter.specs.Meanings.{put_here, put_elsewhere, put_is, none_not, some_is, judged_other}
+use Rattle.counter.specs.Meanings.{put_here, put_elsewhere, put_is, judged_other}
 
 -- a table in which one count was written
 count_here : (o : ℕ) (x : Option ℕ) (t : Table) → o < length t.counts → count_at (put_count o x t) o ≡ x
@@ -54,7 +54,8 @@ held_timely : (capacity o n : ℕ) (t : Table) (p : Timeline) → o < length t.c
 held_timely capacity o n t p lt some timely q is z =
     ⊎_elim
     (λ (e : q ≡ o).
-    let was : n ≡ 0 = some_is n 0 (sym (ap (count_at (put_count o (Some n) t)) e ∙ count_here o (Some n) t lt) ∙ z) in
+    let now = ap (count_at (put_count o (Some n) t)) e ∙ count_here o (Some n) t lt in
+    let was : n ≡ 0 = cc in
     absurd (omega arith))
     (λ (ne : q ≢ o). let s = timely q is (sym (count_other o q (Some n) t ne) ∙ z) in record { soon = s.soon; unseen = s.unseen })
     (cases_eq q o)
@@ -77,7 +78,7 @@ loss_timely capacity o n t p timely q is z =
 judge_leaves : (o q : ℕ) (dead : Bool) (t : Table) → o < length t.counts → dead ≡ unheld (count_at t o) →
     count_at (cond dead (put_count o None t) t) q ≡ Some 0 → (q ≢ o) × (count_at t q ≡ Some 0)
 judge_leaves o q true t lt answer z =
-    let ne : q ≢ o = λ e. none_not _ 0 (ap (count_at (put_count o None t)) e ∙ count_here o None t lt) z in
+    let ne : q ≢ o = λ e. (let now = ap (count_at (put_count o None t)) e ∙ count_here o None t lt in cc) in
     (ne, sym (count_other o q None t ne) ∙ z)
 judge_leaves o q false t lt answer z = (λ e. held_not (count_at t o) answer (ap (count_at t) (sym e) ∙ z), z)
 

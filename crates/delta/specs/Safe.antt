@@ -3,6 +3,7 @@ use Rattle.std.specs.Prelude.{◌≡◌, ℕ, zero, suc, ◌+◌, ◌/◌, ◌%�
 use Rattle.std.proofs.Common.{sym, ◌∙◌, ap, subst, ⊎_elim, arith, length-set, get_or-set_same, get_or-set_other}
 use Rattle.std.proofs.lemmas.Int.{ints}
 use Rattle.std.proofs.lemmas.List.{length-replicate}
+use Rattle.std.proofs.Math.Bool.{or-false}
 use Rattle.std.proofs.lemmas.Bool.{eq-eqb, ne_eqb, leb-true, le-leb, and_parts, and_from, or_cases, or_left, or_right, cond_both, cases_eq, cases_lt, both_ways}
 use Rattle.model.specs.CoreSets.{member}
 use Rattle.model.proofs.Sets.{none_member, join_member, all_each}
@@ -332,13 +333,9 @@ not_of core o k st empty some h e =
     let none : object_in (slot_at st k) ≡ 0 = ap (λ (i : ℕ). object_in (slot_at st i)) is ∙ ap object_in (empty (k % 16) (omega arith)) in
     omega (arith, none, h)
 
-or_false : (a b : Bool) → b ≡ false → (a || b) ≡ a
-or_false true b e = refl
-or_false false b e = e
-
 -- a mark on one core says nothing of another
 pub joined_other : (bits c d : ℕ) → d ≢ c → member (bit_or bits (2 ^ c)) d ≡ member bits d
-joined_other bits c d ne = join_member bits c d ∙ or_false (member bits d) (d == c) (ne_eqb d c ne)
+joined_other bits c d ne = join_member bits c d ∙ ap (λ (b : Bool). member bits d || b) (ne_eqb d c ne) ∙ or-false (member bits d)
 
 pub joined_keeps : (bits c d : ℕ) → member bits d ≡ true → member (bit_or bits (2 ^ c)) d ≡ true
 joined_keeps bits c d e = join_member bits c d ∙ or_left (member bits d) (d == c) e
