@@ -1,5 +1,5 @@
-use super::answer::{Reply, write};
-use super::record::read;
+use super::answer::Reply;
+use super::record::{RECORD, read};
 use model::call::Call;
 use model::fault::{Fault, Reason, SpaceFault};
 use std::test::Fail;
@@ -56,7 +56,7 @@ const LISTING: [(u8, u8, u8, u8, u8, u8); 10] = [
 ];
 
 // A record with small numbers.
-fn small(kind: u8, core: u8, label: u8, a: u8, b: u8, c: u8) -> [u8; 16] {
+fn small(kind: u8, core: u8, label: u8, a: u8, b: u8, c: u8) -> [u8; RECORD] {
     [kind, core, label, 0, a, 0, 0, 0, b, 0, 0, 0, c, 0, 0, 0]
 }
 
@@ -114,7 +114,7 @@ fn unused_fields_are_zero(rt: HostRuntime) {
     for (kind, place) in UNUSED {
         let mut bytes = small(kind, 0, 0, 0, 0, 0);
         assert!(rt; read(&bytes).is_ok());
-        bytes[place % 16] = 1;
+        bytes[place % RECORD] = 1;
         assert!(rt; read(&bytes).is_err());
     }
     assert!(rt; read(&small(9, 0, 0, 0, 0, 0)).is_err());
@@ -129,7 +129,7 @@ fn replies_are_written(rt: HostRuntime) {
         epoch: 5,
     };
     assert_eq!(rt;
-        write(done),
+        done.to_bytes(),
         [2, 1, 0, 0, 255, 255, 255, 255, 1, 0, 0, 0, 5, 0, 0, 0]
     );
     let vacant = Fault::Space(SpaceFault::Refused {
@@ -143,7 +143,7 @@ fn replies_are_written(rt: HostRuntime) {
         epoch: 5,
     };
     assert_eq!(rt;
-        write(refused),
+        refused.to_bytes(),
         [2, 1, 6, 1, 70, 0, 0, 0, 0, 0, 0, 0, 5, 0, 0, 0]
     );
     let rest = Reply {
@@ -153,7 +153,7 @@ fn replies_are_written(rt: HostRuntime) {
         epoch: 5,
     };
     assert_eq!(rt;
-        write(rest),
+        rest.to_bytes(),
         [255, 0, 15, 4, 255, 255, 255, 255, 0, 0, 0, 0, 5, 0, 0, 0]
     );
 }
