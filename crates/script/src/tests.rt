@@ -2,7 +2,6 @@ use super::answer::Reply;
 use super::record::{RECORD, read};
 use model::call::Call;
 use model::fault::{Fault, Reason, SpaceFault};
-use std::test::Fail;
 
 // Each kind with a place of its record that it does not use.
 const UNUSED: [(u8, usize); 33] = [
@@ -61,36 +60,29 @@ fn small(kind: u8, core: u8, label: u8, a: u8, b: u8, c: u8) -> [u8; RECORD] {
 }
 
 #[test]
-fn calls_are_read(rt: HostRuntime) -> Result<(), Fail> {
-    let Ok(
-        Call::SetUp {
-            cores,
-            frames,
-            nodes,
-            epoch,
-        },
-    ) = read(&small(0, 2, 0, 2, 4, 5))
-    else {
-        return Err(Fail::new("no set up"));
-    };
-    assert!(rt; cores == 2 && frames == 2 && nodes == 4 && epoch == 5);
-    let Ok(
-        Call::Map {
-            core,
-            label,
-            first,
-            count,
-        },
-    ) = read(&small(1, 0, 7, 64, 63, 0))
-    else {
-        return Err(Fail::new("no map"));
-    };
-    assert!(rt; core == 0 && label == 7 && first == 64 && count == 63);
-    let Ok(Call::Look { page }) = read(&[8, 0, 0, 0, 1, 2, 3, 0, 0, 0, 0, 0, 0, 0, 0, 0]) else {
-        return Err(Fail::new("no look"));
-    };
-    assert!(rt; page == 197_121);
-    Ok(())
+fn calls_are_read(rt: HostRuntime) {
+    assert_eq!(rt;
+        read(&small(0, 2, 0, 2, 4, 5)),
+        Ok(Call::SetUp {
+            cores: 2,
+            frames: 2,
+            nodes: 4,
+            epoch: 5,
+        })
+    );
+    assert_eq!(rt;
+        read(&small(1, 0, 7, 64, 63, 0)),
+        Ok(Call::Map {
+            core: 0,
+            label: 7,
+            first: 64,
+            count: 63,
+        })
+    );
+    assert_eq!(rt;
+        read(&[8, 0, 0, 0, 1, 2, 3, 0, 0, 0, 0, 0, 0, 0, 0, 0]),
+        Ok(Call::Look { page: 197_121 })
+    );
 }
 
 #[test]
