@@ -1,5 +1,7 @@
 -- The kinds of records and their numbers.
-use Rattle.std.specs.Prelude.{ℕ, cond, Some, None, Option, ◌==◌}
+use Rattle.std.specs.Prelude.{◌≡◌, ℕ, cond, Some, None, Option, Result, MatchResult, ◌==◌}
+use Rattle.model.specs.declared.fault.Fault.{Fault}
+use Rattle.model.specs.declared.fault.Fault.TheVariants.{BadRecord}
 use Rattle.script.specs.declared.kind.Kind.{Kind}
 use Rattle.script.specs.declared.kind.Kind.TheVariants.{SetUp, Map, Touch, Share, Begin, Acknowledge, Finish, Flush, Look}
 
@@ -27,3 +29,7 @@ kind_of n =
     (cond (n == 6) (Some Finish)
     (cond (n == 7) (Some Flush)
     (cond (n == 8) (Some Look) None))))))))
+
+-- the result is the kind with this number, or says that no kind has it
+abbrev pub Decodes : ℕ → Result Kind Fault → Type 0
+Decodes n r = MatchResult r (λ kind. kind_of n ≡ Some kind) (λ fault. (kind_of n ≡ None) × (fault ≡ BadRecord))

@@ -1,5 +1,7 @@
 -- What a script of records does to a memory, and what is answered.
-use Rattle.std.specs.Prelude.{ℕ, zero, suc, ◌*◌, ◌/◌, ◌%◌, cond, List, [], ◌∷◌, ◌++◌, length, take, drop, Ok, Err, Result, ◌==◌, slice_index}
+use Rattle.std.specs.Prelude.{ℕ, ◌/◌, ◌%◌, cond, List, [], ◌∷◌, ◌++◌, length, Ok, Err, Result, ◌==◌, slice_index, fold}
+use Rattle.std.specs.List.{scan, flat_map}
+use Rattle.std.specs.Simd.{first_chunks}
 use Rattle.model.specs.declared.call.Call.{Call}
 use Rattle.model.specs.declared.call.Call.TheVariants.{SetUp, Map, Touch, Share, Begin, Acknowledge, Finish, Flush, Look}
 use Rattle.model.specs.declared.fault.SpaceFault.{SpaceFault}
@@ -51,42 +53,36 @@ read_after (Ok call) st = call_after call st
 read_after (Err e) st = st
 
 -- what a record is answered
-unfoldable pub record_outcome : List ℕ → State → Result ℕ Fault
-record_outcome bytes st = read_answer (decoded bytes) st
+unfoldable pub record_outcome : State → List ℕ → Result ℕ Fault
+record_outcome st bytes = read_answer (decoded bytes) st
 
 -- the state that a record leaves
-unfoldable pub record_after : List ℕ → State → State
-record_after bytes st = read_after (decoded bytes) st
+unfoldable pub record_after : State → List ℕ → State
+record_after st bytes = read_after (decoded bytes) st
 
 -- the reply to a record repeats its kind and core bytes, and tells the epoch after it
-abbrev pub reply_to : List ℕ → State → Reply
-reply_to bytes st = record { kind = slice_index bytes 0; core = slice_index bytes 1; outcome = record_outcome bytes st; epoch = (record_after bytes st).epoch }
+abbrev pub reply_to : State → List ℕ → Reply
+reply_to st bytes = record { kind = slice_index bytes 0; core = slice_index bytes 1; outcome = record_outcome st bytes; epoch = (record_after st bytes).epoch }
 
 -- the reply to a rest of fewer than 16 bytes
 abbrev pub rest_reply : State → Reply
 rest_reply st = record { kind = 255; core = 0; outcome = Err BadRecord; epoch = st.epoch }
 
--- record number i of a script
-abbrev pub record_at : List ℕ → ℕ → List ℕ
-record_at script i = take 16 (drop (16 * i) script)
+-- the whole records of a script
+abbrev pub records_in : List ℕ → List (List ℕ)
+records_in script = first_chunks 16 (length script / 16) script
 
--- the state after the first i records
-unfoldable pub state_after : List ℕ → ℕ → State → State
-state_after script zero st = st
-state_after script (suc i) st = record_after (record_at script i) (state_after script i st)
+-- the state after records
+abbrev pub state_after : List (List ℕ) → State → State
+state_after records st = fold record_after st records
 
--- the replies to the first i records
-unfoldable pub replies_to : List ℕ → ℕ → State → List Reply
-replies_to script zero st = []
-replies_to script (suc i) st = replies_to script i st ++ (reply_to (record_at script i) (state_after script i st) ∷ [])
-
--- how many whole records a script has
-abbrev pub records_in : List ℕ → ℕ
-records_in script = length script / 16
+-- the replies to records, each in the state that those before it leave
+abbrev pub replies_to : List (List ℕ) → State → List Reply
+replies_to records st = scan record_after reply_to st records
 
 -- the state after a script
 abbrev pub state_at_end : List ℕ → State → State
-state_at_end script st = state_after script (records_in script) st
+state_at_end script st = state_after (records_in script) st
 
 -- one more reply for a rest of 1 to 15 bytes
 abbrev pub rest_replies : List ℕ → State → List Reply
@@ -94,12 +90,11 @@ rest_replies script st = cond (length script % 16 == 0) [] (rest_reply (state_at
 
 -- all replies to a script
 abbrev pub replies : List ℕ → State → List Reply
-replies script st = replies_to script (records_in script) st ++ rest_replies script st
+replies script st = replies_to (records_in script) st ++ rest_replies script st
 
 -- their bytes
-unfoldable pub all_bytes : List Reply → List ℕ
-all_bytes [] = []
-all_bytes (r ∷ rs) = reply_bytes r ++ all_bytes rs
+abbrev pub all_bytes : List Reply → List ℕ
+all_bytes rs = flat_map reply_bytes rs
 
 -- the bytes that a script is answered
 abbrev pub answer_bytes : List ℕ → State → List ℕ

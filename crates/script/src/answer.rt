@@ -1,6 +1,7 @@
 ghost use Rattle.std.specs.Prelude.{◌≡◌, length};
 ghost use Rattle.script.specs.Replies.{place_number, told_of, reply_bytes};
 
+use super::record::RECORD;
 use model::fault::Fault;
 use model::page::{Epoch, Page};
 
@@ -25,52 +26,47 @@ struct Told {
     answer: u32,
 }
 
-/// The reply's sixteen bytes.
-pub fn write(reply: Reply) -> [u8; 16]
-    ensures value { result ≡ reply_bytes reply }
-    ensures full { length result ≡ 16 }
-{
-    let told = told_of(reply.outcome);
-    let [p0, p1, p2, p3] = told.place.to_le_bytes();
-    let [a0, a1, a2, a3] = told.answer.to_le_bytes();
-    let [e0, e1, e2, e3] = reply.epoch.to_le_bytes();
-    [
-        reply.kind,
-        reply.core,
-        told.number,
-        told.part,
-        p0,
-        p1,
-        p2,
-        p3,
-        a0,
-        a1,
-        a2,
-        a3,
-        e0,
-        e1,
-        e2,
-        e3,
-    ]
+impl Reply {
+    /// The reply's sixteen bytes.
+    pub fn to_bytes(self) -> [u8; RECORD]
+        ensures value { result ≡ reply_bytes self }
+        ensures full { length result ≡ 16 }
+    {
+        let (kind, core) = (self.kind, self.core);
+        let Told {
+            number,
+            part,
+            place,
+            answer,
+        } = Told::from(self.outcome);
+        let [p0, p1, p2, p3] = place.to_le_bytes();
+        let [a0, a1, a2, a3] = answer.to_le_bytes();
+        let [e0, e1, e2, e3] = self.epoch.to_le_bytes();
+        [
+            kind, core, number, part, p0, p1, p2, p3, a0, a1, a2, a3, e0, e1, e2, e3,
+        ]
+    }
 }
 
-// An answer comes without a fault, and a fault with the answer 0.
-fn told_of(outcome: Result<u32, Fault>) -> Told
-    ensures { result ≡ told_of outcome }
-{
-    match outcome {
-        Ok(answer) => Told {
-            number: 0,
-            part: 0,
-            place: place_code(None),
-            answer,
-        },
-        Err(fault) => Told {
-            number: fault.number(),
-            part: fault.part().number(),
-            place: place_code(fault.place()),
-            answer: 0,
-        },
+impl From<Result<u32, Fault>> for Told {
+    ghost from_gives = { λ outcome told. told ≡ told_of outcome };
+
+    // An answer comes without a fault, and a fault with the answer 0.
+    fn from(outcome: Result<u32, Fault>) -> Told {
+        match outcome {
+            Ok(answer) => Told {
+                number: 0,
+                part: 0,
+                place: place_code(None),
+                answer,
+            },
+            Err(fault) => Told {
+                number: fault.number(),
+                part: fault.part().number(),
+                place: place_code(fault.place()),
+                answer: 0,
+            },
+        }
     }
 }
 
@@ -78,8 +74,5 @@ fn told_of(outcome: Result<u32, Fault>) -> Told
 pub fn place_code(place: Option<Page>) -> u32
     ensures { result ≡ place_number place }
 {
-    match place {
-        Some(page) => page,
-        None => u32::MAX,
-    }
+    place.unwrap_or(u32::MAX)
 }

@@ -2,8 +2,6 @@
 ghost use Rattle.script.specs.ReplyLaws.{ReplyLength};
 
 /// Every reply has sixteen bytes.
-pub fn reply_length() -> u8
+pub fn reply_length()
     ensures { ReplyLength }
-{
-    0
-}
+{}

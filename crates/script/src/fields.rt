@@ -4,7 +4,7 @@ ghost use Rattle.script.specs.FieldUse.{used_by};
 use super::kind::Kind;
 
 /// Which fields of a record a kind uses. The others are 0 in a good record.
-#[derive(Clone, Copy)]
+#[derive(Clone, Copy, PartialEq, Eq, Debug)]
 pub struct Fields {
     pub core: bool,
     pub label: bool,
@@ -13,71 +13,35 @@ pub struct Fields {
     pub c: bool,
 }
 
+// A core, and no number.
+const CORE: Fields = Fields {
+    core: true,
+    label: false,
+    a: false,
+    b: false,
+    c: false,
+};
+
+// A core, and one number.
+const ONE: Fields = Fields { a: true, ..CORE };
+
+// A core, and two numbers.
+const TWO: Fields = Fields { b: true, ..ONE };
+
+// A core, and three numbers.
+const THREE: Fields = Fields { c: true, ..TWO };
+
 // A row for each kind, in the order of the kinds.
 const USED: [Fields; 9] = [
-    Fields {
-        core: true,
-        label: false,
-        a: true,
-        b: true,
-        c: true,
-    },
-    Fields {
-        core: true,
-        label: true,
-        a: true,
-        b: true,
-        c: false,
-    },
-    Fields {
-        core: true,
-        label: false,
-        a: true,
-        b: false,
-        c: false,
-    },
-    Fields {
-        core: true,
-        label: false,
-        a: true,
-        b: true,
-        c: false,
-    },
-    Fields {
-        core: true,
-        label: false,
-        a: true,
-        b: true,
-        c: false,
-    },
-    Fields {
-        core: true,
-        label: false,
-        a: true,
-        b: false,
-        c: false,
-    },
-    Fields {
-        core: true,
-        label: false,
-        a: false,
-        b: false,
-        c: false,
-    },
-    Fields {
-        core: true,
-        label: false,
-        a: false,
-        b: false,
-        c: false,
-    },
-    Fields {
-        core: false,
-        label: false,
-        a: true,
-        b: false,
-        c: false,
-    },
+    THREE,
+    Fields { label: true, ..TWO },
+    ONE,
+    TWO,
+    TWO,
+    ONE,
+    CORE,
+    CORE,
+    Fields { core: false, ..ONE },
 ];
 
 /// The fields that records of this kind use.

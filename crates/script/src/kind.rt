@@ -1,36 +1,39 @@
-ghost use Rattle.std.specs.Prelude.{◌≡◌};
-ghost use Rattle.script.specs.Kinds.{kind_of};
+ghost use Rattle.script.specs.Kinds.{Decodes};
 
-/// What a record asks for, by its first byte.
-#[derive(Clone, Copy)]
+use model::fault::Fault;
+
+/// What a record asks for, with the number that its first byte has.
+#[derive(Clone, Copy, PartialEq, Eq, Debug)]
 pub enum Kind {
-    SetUp,
-    Map,
-    Touch,
-    Share,
-    Begin,
-    Acknowledge,
-    Finish,
-    Flush,
-    Look,
+    SetUp = 0,
+    Map = 1,
+    Touch = 2,
+    Share = 3,
+    Begin = 4,
+    Acknowledge = 5,
+    Finish = 6,
+    Flush = 7,
+    Look = 8,
 }
 
-impl Kind {
-    /// The kind with this number. Nine numbers have one.
-    pub fn of(byte: u8) -> Option<Kind>
-        ensures { result ≡ kind_of byte }
-    {
+impl TryFrom<u8> for Kind {
+    type Error = Fault;
+
+    ghost try_from_gives = { Decodes };
+
+    // Nine bytes are the number of a kind.
+    fn try_from(byte: u8) -> Result<Kind, Fault> {
         match byte {
-            0 => Some(Kind::SetUp),
-            1 => Some(Kind::Map),
-            2 => Some(Kind::Touch),
-            3 => Some(Kind::Share),
-            4 => Some(Kind::Begin),
-            5 => Some(Kind::Acknowledge),
-            6 => Some(Kind::Finish),
-            7 => Some(Kind::Flush),
-            8 => Some(Kind::Look),
-            _ => None,
+            0 => Ok(Kind::SetUp),
+            1 => Ok(Kind::Map),
+            2 => Ok(Kind::Touch),
+            3 => Ok(Kind::Share),
+            4 => Ok(Kind::Begin),
+            5 => Ok(Kind::Acknowledge),
+            6 => Ok(Kind::Finish),
+            7 => Ok(Kind::Flush),
+            8 => Ok(Kind::Look),
+            _ => Err(Fault::BadRecord),
         }
     }
 }

@@ -1,10 +1,10 @@
-ghost use Rattle.std.specs.Prelude.{◌≡◌, length, IfOk, OnOk};
+ghost use Rattle.std.specs.Prelude.{◌≡◌, IfOk, OnOk};
 ghost use Rattle.space.specs.Memories.{memory_state};
-ghost use Rattle.script.specs.Playing.{call_answer, call_after, record_outcome, record_after, reply_to, rest_reply, replies_to, replies, records_in, state_at_end, all_bytes, answer_bytes};
+ghost use Rattle.script.specs.Playing.{call_answer, call_after, record_outcome, record_after, reply_to, replies, state_at_end, all_bytes, answer_bytes};
 ghost use Rattle.space.specs.States.{before_set_up};
 
-use super::answer::{Reply, write};
-use super::record::read;
+use super::answer::Reply;
+use super::record::{RECORD, read};
 use model::call::Call;
 use model::fault::Fault;
 use space::memory::Memory;
@@ -29,42 +29,30 @@ pub fn respond(memory: &mut Memory, call: Call) -> Result<u32, Fault>
             count,
         } => Ok(memory.map(core, label, first, count)?),
         Call::Look { page } => Ok(memory.look(page)?),
-        Call::Touch { core: _, page: _ } => Err(Fault::BadRecord),
-        Call::Share {
-            core: _,
-            source: _,
-            target: _,
-        } => Err(Fault::BadRecord),
-        Call::Begin {
-            core: _,
-            first: _,
-            count: _,
-        } => Err(Fault::BadRecord),
-        Call::Acknowledge { core: _, owner: _ } => Err(Fault::BadRecord),
-        Call::Finish { core: _ } => Err(Fault::BadRecord),
-        Call::Flush { core: _ } => Err(Fault::BadRecord),
+        Call::Touch { .. }
+        | Call::Share { .. }
+        | Call::Begin { .. }
+        | Call::Acknowledge { .. }
+        | Call::Finish { .. }
+        | Call::Flush { .. } => Err(Fault::BadRecord),
     }
 }
 
 // What sixteen bytes ask for, done or refused.
-fn outcome_of(memory: &mut Memory, bytes: &[u8]) -> Result<u32, Fault>
-    ensures answer { result ≡ record_outcome bytes.now (memory_state memory.old) }
-    ensures state { memory_state memory.new ≡ record_after bytes.now (memory_state memory.old) }
+#[tactic(auto, unfolding(crate::specs::Playing::record_outcome, crate::specs::Playing::record_after))]
+fn outcome_of(memory: &mut Memory, bytes: &[u8; RECORD]) -> Result<u32, Fault>
+    ensures answer { result ≡ record_outcome (memory_state memory.old) bytes.now }
+    ensures state { memory_state memory.new ≡ record_after (memory_state memory.old) bytes.now }
 {
-    match read(bytes) {
-        Ok(call) => respond(memory, call),
-        Err(fault) => Err(fault),
-    }
+    respond(memory, read(bytes)?)
 }
 
 // Answers one record. The reply repeats its kind and core bytes.
-fn answer_record(memory: &mut Memory, bytes: &[u8]) -> Reply
-    requires { length bytes.now ≡ 16 }
-    ensures reply { result ≡ reply_to bytes.now (memory_state memory.old) }
-    ensures state { memory_state memory.new ≡ record_after bytes.now (memory_state memory.old) }
+fn answer_record(memory: &mut Memory, bytes: &[u8; RECORD]) -> Reply
+    ensures reply { result ≡ reply_to (memory_state memory.old) bytes.now }
+    ensures state { memory_state memory.new ≡ record_after (memory_state memory.old) bytes.now }
 {
-    let kind = bytes[0];
-    let core = bytes[1];
+    let [kind, core, ..] = *bytes;
     let outcome = outcome_of(memory, bytes);
     Reply {
         kind,
@@ -74,38 +62,25 @@ fn answer_record(memory: &mut Memory, bytes: &[u8]) -> Reply
     }
 }
 
-// Answers the whole records of a script, in their order.
-fn answer_records(
-    heap: Global,
-    memory: &mut Memory,
-    script: &[u8],
-) -> Result<Vec<Reply>, AllocError>
-    ensures replies { IfOk result (λ v. v.items ≡ replies_to script.now (records_in script.now) (memory_state memory.old)) }
-    ensures state { OnOk result (memory_state memory.new ≡ state_at_end script.now (memory_state memory.old)) }
-{
-    let mut out = Vec::new(heap);
-    for i in 0..script.len() / 16 {
-        let reply = answer_record(memory, &script[16 * i..16 * i + 16]);
-        out.push(reply)?;
-    }
-    Ok(out)
-}
-
 /// Plays a script of any bytes: one reply for each record, and one more for a rest of 1 to 15 bytes.
+#[tactic(auto, using(crate::proofs::Playings::scan_more))]
 pub fn play(heap: Global, memory: &mut Memory, script: &[u8]) -> Result<Vec<Reply>, AllocError>
     ensures replies { IfOk result (λ v. v.items ≡ replies script.now (memory_state memory.old)) }
     ensures state { OnOk result (memory_state memory.new ≡ state_at_end script.now (memory_state memory.old)) }
 {
-    let mut out = answer_records(heap, memory, script)?;
-    if script.len() % 16 == 0 {
-        return Ok(out);
+    let (records, rest) = script.as_chunks();
+    let mut out = Vec::new(heap);
+    for bytes in records {
+        out.push(answer_record(memory, bytes))?;
     }
-    out.push(Reply {
-        kind: 255,
-        core: 0,
-        outcome: Err(Fault::BadRecord),
-        epoch: memory.epoch(),
-    })?;
+    if !rest.is_empty() {
+        out.push(Reply {
+            kind: 255,
+            core: 0,
+            outcome: Err(Fault::BadRecord),
+            epoch: memory.epoch(),
+        })?;
+    }
     Ok(out)
 }
 
@@ -115,7 +90,7 @@ pub fn bytes_of(heap: Global, replies: &[Reply]) -> Result<Vec<u8>, AllocError>
 {
     let mut out = Vec::new(heap);
     for reply in replies {
-        out.extend_from_slice(&write(*reply))?;
+        out.extend_from_slice(&reply.to_bytes())?;
     }
     Ok(out)
 }

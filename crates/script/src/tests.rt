@@ -1,8 +1,7 @@
-use super::answer::{Reply, write};
-use super::record::read;
+use super::answer::Reply;
+use super::record::{RECORD, read};
 use model::call::Call;
 use model::fault::{Fault, Reason, SpaceFault};
-use std::test::Fail;
 
 // Each kind with a place of its record that it does not use.
 const UNUSED: [(u8, usize); 33] = [
@@ -56,41 +55,34 @@ const LISTING: [(u8, u8, u8, u8, u8, u8); 10] = [
 ];
 
 // A record with small numbers.
-fn small(kind: u8, core: u8, label: u8, a: u8, b: u8, c: u8) -> [u8; 16] {
+fn small(kind: u8, core: u8, label: u8, a: u8, b: u8, c: u8) -> [u8; RECORD] {
     [kind, core, label, 0, a, 0, 0, 0, b, 0, 0, 0, c, 0, 0, 0]
 }
 
 #[test]
-fn calls_are_read(rt: HostRuntime) -> Result<(), Fail> {
-    let Ok(
-        Call::SetUp {
-            cores,
-            frames,
-            nodes,
-            epoch,
-        },
-    ) = read(&small(0, 2, 0, 2, 4, 5))
-    else {
-        return Err(Fail::new("no set up"));
-    };
-    assert!(rt; cores == 2 && frames == 2 && nodes == 4 && epoch == 5);
-    let Ok(
-        Call::Map {
-            core,
-            label,
-            first,
-            count,
-        },
-    ) = read(&small(1, 0, 7, 64, 63, 0))
-    else {
-        return Err(Fail::new("no map"));
-    };
-    assert!(rt; core == 0 && label == 7 && first == 64 && count == 63);
-    let Ok(Call::Look { page }) = read(&[8, 0, 0, 0, 1, 2, 3, 0, 0, 0, 0, 0, 0, 0, 0, 0]) else {
-        return Err(Fail::new("no look"));
-    };
-    assert!(rt; page == 197_121);
-    Ok(())
+fn calls_are_read(rt: HostRuntime) {
+    assert_eq!(rt;
+        read(&small(0, 2, 0, 2, 4, 5)),
+        Ok(Call::SetUp {
+            cores: 2,
+            frames: 2,
+            nodes: 4,
+            epoch: 5,
+        })
+    );
+    assert_eq!(rt;
+        read(&small(1, 0, 7, 64, 63, 0)),
+        Ok(Call::Map {
+            core: 0,
+            label: 7,
+            first: 64,
+            count: 63,
+        })
+    );
+    assert_eq!(rt;
+        read(&[8, 0, 0, 0, 1, 2, 3, 0, 0, 0, 0, 0, 0, 0, 0, 0]),
+        Ok(Call::Look { page: 197_121 })
+    );
 }
 
 #[test]
@@ -114,7 +106,7 @@ fn unused_fields_are_zero(rt: HostRuntime) {
     for (kind, place) in UNUSED {
         let mut bytes = small(kind, 0, 0, 0, 0, 0);
         assert!(rt; read(&bytes).is_ok());
-        bytes[place % 16] = 1;
+        bytes[place % RECORD] = 1;
         assert!(rt; read(&bytes).is_err());
     }
     assert!(rt; read(&small(9, 0, 0, 0, 0, 0)).is_err());
@@ -129,7 +121,7 @@ fn replies_are_written(rt: HostRuntime) {
         epoch: 5,
     };
     assert_eq!(rt;
-        write(done),
+        done.to_bytes(),
         [2, 1, 0, 0, 255, 255, 255, 255, 1, 0, 0, 0, 5, 0, 0, 0]
     );
     let vacant = Fault::Space(SpaceFault::Refused {
@@ -143,7 +135,7 @@ fn replies_are_written(rt: HostRuntime) {
         epoch: 5,
     };
     assert_eq!(rt;
-        write(refused),
+        refused.to_bytes(),
         [2, 1, 6, 1, 70, 0, 0, 0, 0, 0, 0, 0, 5, 0, 0, 0]
     );
     let rest = Reply {
@@ -153,7 +145,7 @@ fn replies_are_written(rt: HostRuntime) {
         epoch: 5,
     };
     assert_eq!(rt;
-        write(rest),
+        rest.to_bytes(),
         [255, 0, 15, 4, 255, 255, 255, 255, 0, 0, 0, 0, 5, 0, 0, 0]
     );
 }

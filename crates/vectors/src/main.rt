@@ -1,8 +1,9 @@
 // Plays stored scripts and compares each answer byte with that of an independent model of the rules.
 #![tactic(auto)]
 
-use anyhow::anyhow;
+use anyhow::ensure;
 use script::player::answers_to;
+use script::record::RECORD;
 use std::fs;
 
 const NAMES: [&str; 4] = ["map-1", "map-2", "map-3", "map-4"];
@@ -14,21 +15,15 @@ fn compare(rt: &HostRuntime, name: &str) -> anyhow::Result<()> {
     let stored = fs::read(rt, format!(in heap; "{name}.answers")?.as_str())?;
     let answers = answers_to(heap, script.as_slice())?;
     let bytes = script.len();
-    let records = answers.len() / 16;
-    if answers.as_slice() != stored.as_slice() {
-        return Err(anyhow!("an answer differs from the stored one"));
-    }
+    let records = answers.len() / RECORD;
+    ensure!(answers == stored, "an answer differs from the stored one");
     println!(rt; "{name}: {bytes} bytes, {records} answers, all equal")?;
     Ok(())
 }
 
-fn run(rt: &HostRuntime) -> anyhow::Result<()> {
+fn main(rt: HostRuntime) -> anyhow::Result<()> {
     for name in NAMES {
-        compare(rt, name)?;
+        compare(&rt, name)?;
     }
     Ok(())
-}
-
-fn main(rt: HostRuntime) -> anyhow::Result<()> {
-    run(&rt)
 }

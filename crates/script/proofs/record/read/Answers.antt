@@ -1,12 +1,11 @@
-use Rattle.std.proofs.Common.{Ok, sym, ap, ◌∙◌}
-use Rattle.script.proofs.Reading.{decoded_from}
+use Rattle.std.proofs.Common.{◌≡◌, ℕ, ◌∙◌, length, true, eqb, eq-eqb, arith, length-drop, length-take}
+use Rattle.script.proofs.Reading.{words_past}
 use Rattle.script.proofs.record.read.Goals as goal
-
-pub returns-then-not-clean : goal.returns-then-not-clean
-returns-then-not-clean c =
-    sym (decoded_from c.args.bytes.now _ _ _ _ c.in-Some.ensures c.in-Some-of.ensures c.fields_of.ensures c.if-not-clean.ensures)
 
 pub returns : goal.returns
 returns c =
-    ap Ok c.call_of.ensures
-    ∙ sym (decoded_from c.args.bytes.now _ _ _ _ c.in-Some.ensures c.in-Some-of.ensures c.fields_of.ensures c.if-not-clean.ensures)
+    let xs = c.args.bytes.now in
+    let full : eqb (length xs) 16 ≡ true = eq-eqb (length xs) 16 (omega (arith, c.in_ok-try_from-2.ensures.0, length-take {A = ℕ}, length-drop {A = ℕ})) in
+    let words = c.in_ok-try_from-2.ensures.1 ∙ words_past xs in
+    let clean = rw words at c.if-not-is_clean.ensures in
+    simp (full, c.in_ok-try_from.ensures) (rw (← clean) (cc))
