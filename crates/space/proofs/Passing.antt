@@ -2,7 +2,7 @@
 use Rattle.std.proofs.Common.{◌≡◌, ℕ, ◌+◌, ◌<◌, ◌≤◌, Bool, true, false, cond, not, ◌&&◌, ltb, leb, Some, None, Ok, Err, Option, Result, sym, refl, ap, ◌∙◌, arith}
 use Rattle.std.proofs.lemmas.Bool.{ltb-true, ltb-false, leb-true, and_parts}
 use Rattle.model.specs.declared.fault.Reason.{Reason}
-use Rattle.model.specs.declared.fault.Reason.TheVariants.{CoreNotInService, BadRange, NoLabel, Mapped, Closing}
+use Rattle.model.specs.declared.fault.Reason.TheVariants.{CoreNotInService, BadRange, NoLabel, Mapped, Closing, BadSetUp}
 use Rattle.model.specs.declared.fault.TreeFault.{TreeFault}
 use Rattle.model.specs.Pages.{closing_by, mapped_state}
 use Rattle.model.specs.Flat.{lowest}
@@ -15,7 +15,7 @@ use Rattle.tree.specs.Soundness.{Sound, left}
 use Rattle.tree.specs.Need.{need}
 use Rattle.tree.specs.Room.{room_for}
 use Rattle.tree.proofs.Showing.{shown_plain}
-use Rattle.space.specs.Checks.{Check, and_then, unless, unless_found, of_tree, good_range, good_set_up, numbers_check, vacant_check, map_check, look_check}
+use Rattle.space.specs.Checks.{Check, and_then, unless, unless_found, of_tree, good_range, good_set_up, numbers_check, vacant_check, map_check, look_check, set_up_check}
 
 both : (a b : Check) → and_then a b ≡ Ok tt → (a ≡ Ok tt) × (b ≡ Ok tt)
 both (Ok x) b e = (refl, e)
@@ -93,3 +93,7 @@ set_up_parts cores frames nodes e =
 -- a page that a look may name
 pub page_good : (page : ℕ) → look_check page ≡ Ok tt → page < 262144
 page_good page e = ltb-true page 262144 (fine (ltb page 262144) BadRange e)
+
+-- a set up that passes its check is good
+pub passed : (cores frames nodes : ℕ) → set_up_check cores frames nodes ≡ Ok tt → good_set_up cores frames nodes ≡ true
+passed cores frames nodes e = fine (good_set_up cores frames nodes) BadSetUp e

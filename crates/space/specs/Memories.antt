@@ -2,12 +2,11 @@
 use Rattle.std.specs.Prelude.{ℕ, ◌-◌, Result}
 use Rattle.model.specs.declared.fault.SpaceFault.{SpaceFault}
 use Rattle.counter.specs.Meaning.{Meaning}
-use Rattle.counter.specs.Plain.{TableSteps}
-use Rattle.counter.specs.PlainView.{table_of}
 use Rattle.tree.specs.declared.pool.Pool.{Pool}
 use Rattle.tree.specs.Pools.{unused}
 use Rattle.space.specs.declared.memory.Memory.{Memory}
-use Rattle.space.specs.States.{State, state}
+use Rattle.space.specs.States.{State}
+use Rattle.space.specs.View.{state}
 use Rattle.space.specs.Instance.{plain_meaning}
 use Rattle.space.specs.Laws.{SetUp, Maps, Accepted}
 
@@ -30,4 +29,4 @@ WasSetUp r cores epoch old new = Accepted r (SetUp cores epoch (memory_nodes new
 -- what an accepted map does; a refused one leaves the memory as it was
 abbrev pub Mapped : Result ℕ SpaceFault → ℕ → ℕ → ℕ → ℕ → Memory → Memory → Type 0
 Mapped r core label first count old new =
-    Accepted r (Maps plain_meaning (λ s op t. TableSteps (table_of s) op (table_of t)) core label first count old.space new.space) old.space new.space
+    Accepted r (Maps core label first count old.space new.space) old.space new.space

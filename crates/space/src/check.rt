@@ -3,7 +3,7 @@ ghost use Rattle.model.specs.declared.fault.Reason.TheVariants.{CoreNotInService
 ghost use Rattle.model.specs.Flat.{lowest};
 ghost use Rattle.tree.specs.Soundness.{Sound};
 ghost use Rattle.tree.specs.Search.{found_at};
-ghost use Rattle.space.specs.Checks.{unless, unless_found, good_range, good_set_up, numbers_check, vacant_check, map_check, look_check};
+ghost use Rattle.space.specs.Checks.{unless, unless_found, good_range, set_up_check, numbers_check, vacant_check, map_check, look_check};
 ghost use Rattle.tree.specs.Nodes.{shows};
 
 use model::fault::{Reason, SpaceFault};
@@ -12,57 +12,43 @@ use model::sizes::{CORES, FRAMES, NODES, PAGES};
 use tree::look::Sought;
 use tree::table::Tree;
 
-// A call that the space turns down, with no place.
-pub(super) fn refused(reason: Reason) -> SpaceFault
-    ensures { result ≡ SpaceFault.Refused reason None }
+// Turns a call down for a reason, with no place, unless all is fine.
+pub(super) fn refuse_unless(fine: bool, reason: Reason) -> Result<(), SpaceFault>
+    ensures { result ≡ unless fine reason }
 {
-    SpaceFault::Refused {
+    if fine {
+        return Ok(());
+    }
+    Err(SpaceFault::Refused {
         reason,
         place: None,
-    }
+    })
 }
 
 pub(super) fn check_core(core: Core, cores: u8) -> Result<(), SpaceFault>
     ensures { result ≡ unless (nat_lt core cores) CoreNotInService }
 {
-    if core >= cores {
-        return Err(refused(Reason::CoreNotInService));
-    }
-    Ok(())
+    refuse_unless(core < cores, Reason::CoreNotInService)
 }
 
-// Whether there is at least one page, and none past the last. The sum may pass 32 bits.
-pub(super) fn in_range(first: Page, count: u32) -> bool
-    ensures { result ≡ good_range first count }
-{
-    count > 0 && first as u64 + count as u64 <= PAGES as u64
-}
-
+// At least one page, and none past the last. The sum may pass 32 bits.
 pub(super) fn check_range(first: Page, count: u32) -> Result<(), SpaceFault>
     ensures { result ≡ unless (good_range first count) BadRange }
 {
-    if !in_range(first, count) {
-        return Err(refused(Reason::BadRange));
-    }
-    Ok(())
+    let inside = first as u64 + count as u64 <= PAGES as u64;
+    refuse_unless(count > 0 && inside, Reason::BadRange)
 }
 
 pub(super) fn check_page(page: Page) -> Result<(), SpaceFault>
     ensures { result ≡ look_check page }
 {
-    if page >= PAGES {
-        return Err(refused(Reason::BadRange));
-    }
-    Ok(())
+    refuse_unless(page < PAGES, Reason::BadRange)
 }
 
 pub(super) fn check_label(label: Label) -> Result<(), SpaceFault>
     ensures { result ≡ unless (nat_lt 0 label) NoLabel }
 {
-    if label == 0 {
-        return Err(refused(Reason::NoLabel));
-    }
-    Ok(())
+    refuse_unless(label > 0, Reason::NoLabel)
 }
 
 // Refuses the call at the lowest page of the range in a state.
@@ -132,9 +118,12 @@ pub(super) fn check_map(
     Ok(())
 }
 
-pub(super) fn good_set_up(cores: u8, frames: u32, nodes: u32) -> bool
-    ensures { result ≡ good_set_up cores frames nodes }
+// All checks of a set up.
+pub(super) fn check_set_up(cores: u8, frames: u32, nodes: u32) -> Result<(), SpaceFault>
+    ensures { result ≡ set_up_check cores frames nodes }
 {
-    (cores > 0 && cores <= CORES)
-        && ((frames > 0 && frames as usize <= FRAMES) && (nodes > 0 && nodes as usize <= NODES))
+    let some_cores = cores > 0 && cores <= CORES;
+    let some_frames = frames > 0 && frames as usize <= FRAMES;
+    let some_nodes = nodes > 0 && nodes as usize <= NODES;
+    refuse_unless(some_cores && (some_frames && some_nodes), Reason::BadSetUp)
 }

@@ -1,7 +1,6 @@
 -- Nodes, their slots and links, and the flat page map that a tree stands for.
-use Rattle.std.specs.Prelude.{ℕ, ◌+◌, ◌*◌, ◌/◌, ◌%◌, List, slice_index_or}
-use Rattle.model.specs.declared.page.PageState.{PageState}
-use Rattle.model.specs.declared.page.PageState.TheVariants as states
+use Rattle.std.specs.Prelude.{ℕ, ◌+◌, ◌*◌, ◌/◌, ◌%◌, List, Some, None, slice_index_or}
+use Rattle.model.specs.Pages.{PageState}
 use Rattle.model.specs.Flat.{Flat}
 use Rattle.tree.specs.declared.slot.Slot.{Slot}
 use Rattle.tree.specs.declared.slot.Slot.TheVariants.{Vacant, Child, Value}
@@ -32,9 +31,9 @@ slot_of slots page = down slots (down slots (slot_at slots 1 (page / 4096)) (pag
 
 -- what a slot says of the pages that it stands for
 abbrev pub state_of : Slot → PageState
-state_of Vacant = states.Vacant
-state_of (Child k) = states.Vacant
-state_of (Value e) = states.InUse e
+state_of Vacant = None
+state_of (Child k) = None
+state_of (Value e) = Some e
 
 -- the flat page map that a tree stands for
 abbrev pub shows : Tree → Flat

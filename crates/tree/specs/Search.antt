@@ -1,7 +1,6 @@
 -- What is looked for in a range of pages.
 use Rattle.std.specs.Prelude.{◌≡◌, ℕ, ◌<◌, ◌≤◌, Bool, false, cond}
-use Rattle.model.specs.declared.page.PageState.{PageState}
-use Rattle.model.specs.Pages.{closing_by, mapped_state}
+use Rattle.model.specs.Pages.{PageState, closing_by, mapped_state}
 use Rattle.tree.specs.declared.look.Sought.{Sought}
 use Rattle.tree.specs.declared.look.Sought.TheVariants.{Mapped, Closing}
 use Rattle.tree.specs.declared.look.Seen.{Seen}

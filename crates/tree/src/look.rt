@@ -1,4 +1,4 @@
-ghost use Rattle.std.specs.Prelude.{◌≡◌, ℕ, ◌+◌, ◌-◌, ◌*◌, ◌/◌, ◌%◌, ◌<◌, ◌≤◌, Bool, true, false};
+ghost use Rattle.std.specs.Prelude.{◌≡◌, ℕ, ◌+◌, ◌-◌, ◌*◌, ◌/◌, ◌%◌, ◌<◌, ◌≤◌, Bool, true, false, Some};
 ghost use Rattle.model.specs.Pages.{Proper};
 ghost use Rattle.model.specs.Flat.{lowest};
 ghost use Rattle.tree.specs.Nodes.{slot_at, state_of, shows};
@@ -7,7 +7,7 @@ ghost use Rattle.tree.specs.Search.{fits, found_at, seen_in};
 
 use super::slot::{NodeId, Slot};
 use super::table::Tree;
-use model::page::{Page, PageState};
+use model::page::{Mapping, Page, PageState};
 
 /// The state that a search looks for.
 #[derive(Clone, Copy)]
@@ -30,20 +30,19 @@ impl Slot {
         ensures { result ≡ state_of self }
     {
         match self {
-            Slot::Vacant => PageState::Vacant,
-            Slot::Child(_) => PageState::Vacant,
-            Slot::Value(mapping) => PageState::InUse(mapping),
+            Slot::Value(mapping) => Some(mapping),
+            Slot::Vacant | Slot::Child(_) => None,
         }
     }
 }
 
 impl Sought {
-    pub fn fits(self, state: PageState) -> bool
-        ensures { result ≡ fits self state }
+    pub fn fits(self, mapping: Mapping) -> bool
+        ensures { result ≡ fits self (Some mapping) }
     {
         match self {
-            Sought::Mapped => state.is_mapped(),
-            Sought::Closing => state.is_closing(),
+            Sought::Mapped => mapping.is_mapped(),
+            Sought::Closing => mapping.is_closing(),
         }
     }
 }
@@ -75,7 +74,7 @@ impl Tree {
             Slot::Vacant => Seen::Passes,
             Slot::Child(k) => Seen::Below(k),
             Slot::Value(mapping) => {
-                if sought.fits(PageState::InUse(mapping)) {
+                if sought.fits(mapping) {
                     Seen::Fits
                 } else {
                     Seen::Passes
@@ -89,6 +88,8 @@ impl Tree {
         requires { (n < 65) × (s < 64) }
         ensures { result ≡ fits sought (state_of (slot_at self.now.slots n s)) }
     {
-        sought.fits(self.at(n, s).state())
+        self.at(n, s)
+            .state()
+            .is_some_and(|mapping| sought.fits(mapping))
     }
 }

@@ -1,12 +1,13 @@
-ghost use Rattle.std.specs.Prelude.{◌≡◌, ℕ, ◌+◌, ◌-◌, ◌<◌, ◌≤◌, replicate};
-ghost use Rattle.tree.specs.Pools.{next_object, drawn, full, unused, Ready};
+ghost use Rattle.std.specs.Prelude.{◌≡◌, ℕ, ◌+◌, ◌-◌, ◌<◌, ◌≤◌};
+ghost use Rattle.tree.specs.Pools.{next_object, drawn, full, unused, in_use, Ready};
+
+use arrayvec::ArrayVec;
 
 /// A pool of objects numbered from 1 to `size`. It gives the object that was returned last, else the next new one.
-#[derive(Clone, Copy)]
+#[derive(Drop)]
 pub struct Pool<const N: usize> {
-    /// The objects that came back and wait, the last of them at `count - 1`.
-    pub returned: [u16; N],
-    pub count: usize,
+    /// The objects that came back and wait, the last of them first to go.
+    pub returned: ArrayVec<u16, N>,
     /// The next new object.
     pub next: usize,
     pub size: usize,
@@ -33,8 +34,7 @@ impl<const N: usize> Pool<N> {
         ensures { result ≡ full N size }
     {
         Pool {
-            returned: [0; N],
-            count: 0,
+            returned: ArrayVec::new(),
             next: 1,
             size,
         }
@@ -45,7 +45,15 @@ impl<const N: usize> Pool<N> {
         requires { Ready N self.now }
         ensures { result ≡ unused self.now }
     {
-        self.count + (self.size + 1 - self.next)
+        self.returned.len() + (self.size + 1 - self.next)
+    }
+
+    /// How many objects are out.
+    pub fn in_use(&self) -> usize
+        requires { Ready N self.now }
+        ensures { result ≡ in_use self.now }
+    {
+        self.size - self.free()
     }
 
     /// Draws an object.
@@ -55,11 +63,8 @@ impl<const N: usize> Pool<N> {
         ensures number { result.number ≡ next_object self.old }
         ensures after { self.new ≡ drawn self.old }
     {
-        if self.count > 0 {
-            self.count -= 1;
-            return Drawn {
-                number: self.returned[self.count],
-            };
+        if let Some(number) = self.returned.pop() {
+            return Drawn { number };
         }
         let number = self.next as u16;
         self.next += 1;

@@ -5,7 +5,8 @@ use Rattle.tree.specs.declared.table.Tree.{Tree}
 use Rattle.tree.specs.Filled.{Filled}
 use Rattle.tree.specs.Holders.{Follows}
 use Rattle.tree.specs.Fill.{fill, told}
-use Rattle.space.specs.States.{with_tree, state}
+use Rattle.space.specs.States.{with_tree}
+use Rattle.space.specs.View.{state}
 use Rattle.space.specs.Calls.{answer, after}
 use Rattle.space.specs.Checks.{Check, map_check}
 use Rattle.space.proofs.Opening.{opened}
@@ -14,11 +15,11 @@ use Rattle.space.proofs.Mapping.{filled_maps}
 use Rattle.space.proofs.space.Space.map.Goals as goal
 
 pub check_map-requires : goal.check_map-requires
-check_map-requires g c = record { sound = (opened c.requires.sound).tree }
+check_map-requires g c = record { sound = (opened c.args.self.now.sound).tree }
 
 pub fill-requires : goal.fill-requires
 fill-requires g c =
-    let ok = opened c.requires.sound in
+    let ok = opened c.args.self.now.sound in
     let e = sym c.check_map.ensures ∙ c.in_ok-check_map.was in
     let n = some c.args.core c.args.label c.args.first c.args.count c.args.self.now.cores c.args.self.now.tree ok.tree e in
     record {
@@ -34,7 +35,7 @@ fill-requires g c =
 
 pub returns : goal.returns
 returns g c =
-    let ok = opened c.requires.sound in
+    let ok = opened c.args.self.now.sound in
     let f = c.fill.ensures in
     let m = c.fresh.ensures in
     let passes : map_check c.args.core c.args.label c.args.first c.args.count c.args.self.now.cores c.args.self.now.tree ≡ Ok tt =
@@ -52,6 +53,13 @@ returns g c =
         aside = f.aside;
         told = subst (λ (e : Mapping). Follows g.N.Counter.steps (told c.args.core c.args.first (c.args.first + c.args.count) e c.args.self.now.tree) c.args.self.now.nodes c.fill.new.counter) m f.told;
       };
+    }
+
+pub invariant_of-self : goal.invariant_of-self
+invariant_of-self g c =
+    let ok = opened c.args.self.now.sound in
+    let f = c.fill.ensures in
+    record {
       sound = ∣ record {
         tree = f.filled.sound;
         tallied = f.tallied;
