@@ -1,9 +1,7 @@
 -- The memory as its users see it.
-use Rattle.std.specs.Prelude.{ℕ, ◌-◌, Result}
+use Rattle.std.specs.Prelude.{ℕ, Result}
 use Rattle.model.specs.declared.fault.SpaceFault.{SpaceFault}
 use Rattle.counter.specs.Meaning.{Meaning}
-use Rattle.tree.specs.declared.pool.Pool.{Pool}
-use Rattle.tree.specs.Pools.{unused}
 use Rattle.space.specs.declared.memory.Memory.{Memory}
 use Rattle.space.specs.States.{State}
 use Rattle.space.specs.View.{state}
@@ -17,10 +15,6 @@ memory_state m = state m.space
 -- the meaning of the node counter
 abbrev pub memory_nodes : Memory → Meaning
 memory_nodes m = plain_meaning m.space.nodes
-
--- how many objects of a pool are out
-abbrev pub in_use : {n : ℕ} → Pool n → ℕ
-in_use p = p.size - unused p
 
 -- what an accepted set up does; a refused one leaves the memory as it was
 abbrev pub WasSetUp : Result ℕ SpaceFault → ℕ → ℕ → Memory → Memory → Type 0
