@@ -1,6 +1,7 @@
 -- One reply more in the table of refusals.
 use Rattle.std.proofs.Common.{◌≡◌, ℕ, ◌+◌, ◌≤◌, Bool, true, false, eqb, List, [], ◌∷◌, ◌++◌, length, IfSome, None, Ok, Err, sym, refl, ap, ◌∙◌, subst, arith, eqb-true}
 use borrow.Author.Tests.{eqb-false}
+use Rattle.std.proofs.lemmas.List.Sums.{sum_by_push, count_by-le-length}
 use Rattle.std.specs.BTreeMap.{BTreeMap}
 use Rattle.std.specs.BTreeMap.{IsOrdered, IsEmpty}
 use Rattle.model.specs.declared.fault.Fault.{Fault}
@@ -12,27 +13,13 @@ use Rattle.statement.specs.Tables.{times_in, entry_at, OneMore, Tabled}
 use Rattle.std.specs.Ordering.{nat_cmp}
 
 refused_more : (n : ℕ) (rs : List Reply) (r : Reply) → refused_as n (rs ++ (r ∷ [])) ≡ refused_as n rs + one (faults_as n r.outcome)
-unfolding refused_as
-refused_more n [] r = let k = one (faults_as n r.outcome) in let e : k + 0 ≡ 0 + k = omega arith in e
-refused_more n (x ∷ rs) r =
-    let a = one (faults_as n x.outcome) in
-    let b = one (faults_as n r.outcome) in
-    let k = refused_as n rs in
-    let e : a + (k + b) ≡ a + k + b = omega arith in
-    ap (λ (j : ℕ). a + j) (refused_more n rs r) ∙ e
-
-one_few : (b : Bool) → one b ≤ 1
-one_few true = omega arith
-one_few false = omega arith
+refused_more n rs r = sum_by_push (λ q. one (faults_as n q.outcome)) rs r
 
 refused_few : (n : ℕ) (rs : List Reply) → refused_as n rs ≤ length rs
-unfolding refused_as
-refused_few n [] = omega arith
-refused_few n (r ∷ rs) = omega (arith, refused_few n rs, one_few (faults_as n r.outcome))
+refused_few n rs = count_by-le-length (λ q. faults_as n q.outcome) rs
 
 module _ {m : BTreeMap ℕ Refusals} where
   pub none_tabled : IsEmpty m → IsOrdered nat_cmp m → Tabled [] m
-  unfolding refused_as
   none_tabled empty ordered =
       let none : (n : ℕ) → entry_at m n ≡ None = λ n. rw empty refl in
       record {

@@ -1,6 +1,8 @@
 ghost use Rattle.std.specs.Prelude.{◌≡◌};
 ghost use Rattle.statement.specs.Sights.{frame_told, sight_of};
 
+use std::fmt;
+
 /// What an accepted look tells of a page.
 #[derive(Clone, Copy)]
 pub enum Sight {
@@ -16,11 +18,11 @@ pub enum Sight {
     },
 }
 
-impl Sight {
-    /// Reads a look's answer: label + 256 × frame + 16,777,216 × (owner + 1), an absent part counting 0.
-    pub fn of(answer: u32) -> Sight
-        ensures { result ≡ sight_of answer }
-    {
+/// Reads a look's answer: label + 256 × frame + 16,777,216 × (owner + 1), an absent part counting 0.
+impl From<u32> for Sight {
+    ghost from_gives = { λ a r. r ≡ sight_of a };
+
+    fn from(answer: u32) -> Sight {
         if answer == 0 {
             return Sight::Vacant;
         }
@@ -42,8 +44,32 @@ impl Sight {
 fn frame_told(number: u16) -> Option<u16>
     ensures { result ≡ frame_told number }
 {
-    if number == 0 {
-        return None;
+    (number != 0).then_some(number)
+}
+
+impl fmt::Display for Sight {
+    fn fmt<W: fmt::Write>(&self, f: &mut fmt::Formatter<W>) -> fmt::Result {
+        let frame = match *self {
+            Sight::Vacant => {
+                write!(f, "vacant")?;
+                None
+            }
+            Sight::Mapped { label, frame } => {
+                write!(f, "mapped, label {label}")?;
+                frame
+            }
+            Sight::Closing {
+                owner,
+                label,
+                frame,
+            } => {
+                write!(f, "closing under core {owner}, label {label}")?;
+                frame
+            }
+        };
+        match frame {
+            Some(frame) => write!(f, ", frame {frame}"),
+            None => Ok(()),
+        }
     }
-    Some(number)
 }
