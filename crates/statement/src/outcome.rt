@@ -1,5 +1,6 @@
-ghost use Rattle.std.specs.Prelude.{◌≡◌};
+ghost use Rattle.std.specs.Prelude.{◌≡◌, Some};
 ghost use Rattle.statement.specs.Told.{outcome_of};
+ghost use Rattle.statement.specs.Words.{outcome_words};
 
 use super::asked::Asked;
 use super::phrases::{fault_words, part_words};
@@ -34,6 +35,8 @@ impl Outcome {
 }
 
 impl fmt::Display for Outcome {
+    ghost output = { λ o. Some (outcome_words o) };
+
     fn fmt<W: fmt::Write>(&self, f: &mut fmt::Formatter<W>) -> fmt::Result {
         match *self {
             Outcome::Answer(answer) => write!(f, "answer {answer}"),

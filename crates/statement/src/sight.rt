@@ -1,5 +1,6 @@
-ghost use Rattle.std.specs.Prelude.{◌≡◌};
+ghost use Rattle.std.specs.Prelude.{◌≡◌, Some};
 ghost use Rattle.statement.specs.Sights.{frame_told, sight_of};
+ghost use Rattle.statement.specs.Words.{sight_words};
 
 use std::fmt;
 
@@ -48,28 +49,29 @@ fn frame_told(number: u16) -> Option<u16>
 }
 
 impl fmt::Display for Sight {
+    ghost output = { λ s. Some (sight_words s) };
+
     fn fmt<W: fmt::Write>(&self, f: &mut fmt::Formatter<W>) -> fmt::Result {
-        let frame = match *self {
-            Sight::Vacant => {
-                write!(f, "vacant")?;
-                None
-            }
-            Sight::Mapped { label, frame } => {
-                write!(f, "mapped, label {label}")?;
-                frame
-            }
+        match *self {
+            Sight::Vacant => write!(f, "vacant"),
+            Sight::Mapped { label, frame: None } => write!(f, "mapped, label {label}"),
+            Sight::Mapped {
+                label,
+                frame: Some(frame),
+            } => write!(f, "mapped, label {label}, frame {frame}"),
             Sight::Closing {
                 owner,
                 label,
-                frame,
-            } => {
-                write!(f, "closing under core {owner}, label {label}")?;
-                frame
-            }
-        };
-        match frame {
-            Some(frame) => write!(f, ", frame {frame}"),
-            None => Ok(()),
+                frame: None,
+            } => write!(f, "closing under core {owner}, label {label}"),
+            Sight::Closing {
+                owner,
+                label,
+                frame: Some(frame),
+            } => write!(
+                f,
+                "closing under core {owner}, label {label}, frame {frame}"
+            ),
         }
     }
 }
