@@ -90,6 +90,7 @@ impl Tally {
 }
 
 // Refusals by the numbers of their faults.
+#[tactic(auto, using(crate::proofs::Tabling::none_tabled, crate::proofs::Tabling::times_few, crate::proofs::Tabling::accepted_tabled, crate::proofs::Tabling::refused_tabled))]
 fn refusals_by_number(heap: Global, replies: &[Reply]) -> Result<BTreeMap<u8, Refusals>, AllocError>
     ensures { IfOk result (λ m. Tabled replies.now m) }
 {
