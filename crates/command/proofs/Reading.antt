@@ -77,10 +77,6 @@ pub no_script : (n : Option (Channel × Option Channel)) (m e : Misuse) (b : Boo
 no_script None m e b h = refl
 no_script (Some p) m e b h = cc
 
--- at the turn of a word: what it and those after it ask for is what all ask for
-pub turn : (ps : List Place) (b : Bool) (w : String Global) (rest items : List (String Global)) {o all : Option Wish} → items ≡ w ∷ rest → wished_after ps b (map string_bytes items) ≡ all → o ≡ wished_after ps b (string_bytes w ∷ map string_bytes rest) → o ≡ all
-turn ps b w rest items steps before e = e ∙ ap (λ (xs : List (String Global)). wished_after ps b (map string_bytes xs)) (sym steps) ∙ before
-
 -- after the last word: what those before it ask for is what all ask for
 pub at_end : (ps : List Place) (b : Bool) (items : List (String Global)) {all : Option Wish} → items ≡ [] → wished_after ps b (map string_bytes items) ≡ all → wish_for ps b ≡ all
 at_end ps b items none before = sym (no_word ps b) ∙ ap (λ (xs : List (String Global)). wished_after ps b (map string_bytes xs)) (sym none) ∙ before

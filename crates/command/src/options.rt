@@ -3,7 +3,7 @@ ghost use Rattle.command.specs.Arguments.{is_flag, place_named, place_of, places
 
 use std::fmt;
 
-/// Where bytes come from or go to.
+/// Where bytes come from or go to. No Option of a name, since the standard one is a channel and not the lack of one.
 #[derive(Drop)]
 pub enum Channel {
     Standard,
@@ -55,6 +55,7 @@ impl TryFrom<Vec<String>> for Options {
 
     ghost try_from_gives = { λ ws r. wish_read r ≡ wished (map string_bytes ws.items) };
 
+    #[tactic(auto, using(crate::proofs::Reading::brief_word, crate::proofs::Reading::flag_word, crate::proofs::Reading::next_word, crate::proofs::Reading::third_word))]
     fn try_from(words: Vec<String>) -> Result<Options, Misuse> {
         let mut named = None;
         let mut brief = false;
