@@ -119,7 +119,7 @@ fn count_refusal(refusals: &mut BTreeMap<u8, Refusals>, fault: Fault) -> Result<
 }
 
 impl Census {
-    // Looks at every page once.
+    // Looks at every page once. In a fold the proof that the counts stay below the number of pages does not close.
     #[tactic(auto, using(crate::proofs::Counting::count_none, crate::proofs::Counting::count_more))]
     fn of(memory: &Memory) -> Census
         ensures mapped { result.mapped ≡ count_below 262144 (mapped_at (memory_state memory.now)) }
