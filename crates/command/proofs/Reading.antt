@@ -1,13 +1,14 @@
 -- What one word more asks for, after those before it.
-use Rattle.std.proofs.Common.{◌≡◌, ℕ, Bool, true, false, cond, not, ◌&&◌, ◌||◌, List, [], ◌∷◌, ◌++◌, map, is_err, Some, None, Ok, Err, string_bytes, codes, Option, Result, String, sym, refl, ap, ◌∙◌, append-nil}
+use Rattle.std.proofs.Common.{◌≡◌, ℕ, Bool, true, false, cond, not, ◌&&◌, ◌||◌, List, [], ◌∷◌, ◌++◌, map, length, is_err, Some, None, Ok, Err, string_bytes, codes, Option, Result, String, sym, refl, ap, ◌∙◌, append-nil}
 use Rattle.std.specs.declared.alloc.Global.{Global}
 use Rattle.std.specs.Option.{ok_or}
 use Rattle.std.proofs.Math.Bool.{or-true, or-false}
+use Rattle.std.proofs.lemmas.List.{nil_from_length}
 use Rattle.std.proofs.lemmas.Slice.Eq.{bytes_eq-Decides}
 use Rattle.command.specs.declared.options.Channel.{Channel}
 use Rattle.command.specs.declared.options.Misuse.{Misuse}
 use Rattle.command.specs.declared.options.Options.{Options}
-use Rattle.command.specs.Arguments.{Place, Wish, is_flag, is_brief, place_named, places, places_of, any_brief, all_known, wish_for, one_more, wish_read}
+use Rattle.command.specs.Arguments.{Place, Wish, is_flag, is_brief, place_named, place_of, answers_place, places, places_of, any_brief, all_known, wish_for, one_more, wish_read}
 
 -- what words ask for after those that named these places, and asked to be brief or not
 abbrev pub wished_after : List Place → Bool → List (List ℕ) → Option Wish
@@ -62,12 +63,12 @@ pub refusal_read : (r : Result Options Misuse) → is_err r ≡ true → wish_re
 refusal_read (Ok o) e = cc
 refusal_read (Err m) e = refl
 
-channels_wish : (s : Channel) (a : Option Channel) (b : Bool) → wish_read (Ok (record { script = s; answers = a; brief = b })) ≡ wish_for (places_of (Some (s, a))) b
+channels_wish : (s : Channel) (a : Option Channel) (b : Bool) → Some (record { from = place_of s; to = answers_place a; short = b }) ≡ wish_for (places_of (Some (s, a))) b
 channels_wish s None b = refl
 channels_wish s (Some d) b = refl
 
 -- what is asked for once all channels are named
-pub script_named : (n : Option (Channel × Option Channel)) (m : Misuse) (s : Channel) (a : Option Channel) (b : Bool) → ok_or n m ≡ Ok (s, a) → wish_read (Ok (record { script = s; answers = a; brief = b })) ≡ wish_for (places_of n) b
+pub script_named : (n : Option (Channel × Option Channel)) (m : Misuse) (s : Channel) (a : Option Channel) (b : Bool) → ok_or n m ≡ Ok (s, a) → Some (record { from = place_of s; to = answers_place a; short = b }) ≡ wish_for (places_of n) b
 script_named None m s a b e = cc
 script_named (Some p) m s a b e =
     let same : p ≡ (s, a) = cc in
@@ -78,5 +79,7 @@ no_script None m e b h = refl
 no_script (Some p) m e b h = cc
 
 -- after the last word: what those before it ask for is what all ask for
-pub at_end : (ps : List Place) (b : Bool) (items : List (String Global)) {all : Option Wish} → items ≡ [] → wished_after ps b (map string_bytes items) ≡ all → wish_for ps b ≡ all
-at_end ps b items none before = sym (no_word ps b) ∙ ap (λ (xs : List (String Global)). wished_after ps b (map string_bytes xs)) (sym none) ∙ before
+pub at_end : (ps : List Place) (b : Bool) (items : List (String Global)) {all : Option Wish} → length items ≡ 0 → wished_after ps b (map string_bytes items) ≡ all → wish_for ps b ≡ all
+at_end ps b items none before = sym (no_word ps b) ∙ ap (λ (xs : List (String Global)). wished_after ps b (map string_bytes xs)) (sym (nil_from_length items none)) ∙ before
+
+pub ruleset words_read = (brief_word, flag_word, next_word, third_word)

@@ -55,7 +55,7 @@ impl TryFrom<Vec<String>> for Options {
 
     ghost try_from_gives = { λ ws r. wish_read r ≡ wished (map string_bytes ws.items) };
 
-    #[tactic(auto, using(crate::proofs::Reading::brief_word, crate::proofs::Reading::flag_word, crate::proofs::Reading::next_word, crate::proofs::Reading::third_word))]
+    #[tactic(auto, using(crate::proofs::Reading::words_read))]
     fn try_from(words: Vec<String>) -> Result<Options, Misuse> {
         let mut named = None;
         let mut brief = false;

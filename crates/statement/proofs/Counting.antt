@@ -9,3 +9,5 @@ count_none f = refl
 pub count_more : (f : ℕ → Bool) (n : ℕ) → count_below (n + 1) f ≡ count_below n f + one (f n)
 unfolding count_below
 count_more f n = let e : n + 1 ≡ suc n = omega arith in ap (λ (k : ℕ). count_below k f) e
+
+pub ruleset counting = (count_none, count_more)

@@ -50,3 +50,5 @@ module _ {m n : BTreeMap ℕ Refusals} {f : Fault} {rs : List Reply} (old : Tabl
     counts = λ q. rw (refused_more q rs r) (rw e (counted q (eqb q (number_of f)) refl));
     alike = λ q. alike_after q (eqb q (number_of f)) refl;
   }
+
+pub ruleset tabling = (none_tabled, times_few, accepted_tabled, refused_tabled)

@@ -90,7 +90,7 @@ impl Tally {
 }
 
 // Refusals by the numbers of their faults.
-#[tactic(auto, using(crate::proofs::Tabling::none_tabled, crate::proofs::Tabling::times_few, crate::proofs::Tabling::accepted_tabled, crate::proofs::Tabling::refused_tabled))]
+#[tactic(auto, using(crate::proofs::Tabling::tabling))]
 fn refusals_by_number(heap: Global, replies: &[Reply]) -> Result<BTreeMap<u8, Refusals>, AllocError>
     ensures { IfOk result (λ m. Tabled replies.now m) }
 {
@@ -120,7 +120,7 @@ fn count_refusal(refusals: &mut BTreeMap<u8, Refusals>, fault: Fault) -> Result<
 
 impl Census {
     // Looks at every page once. In a fold the proof that the counts stay below the number of pages does not close.
-    #[tactic(auto, using(crate::proofs::Counting::count_none, crate::proofs::Counting::count_more))]
+    #[tactic(auto, using(crate::proofs::Counting::counting))]
     fn of(memory: &Memory) -> Census
         ensures mapped { result.mapped ≡ count_below 262144 (mapped_at (memory_state memory.now)) }
         ensures closing { result.closing ≡ count_below 262144 (closing_at (memory_state memory.now)) }
