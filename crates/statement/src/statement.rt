@@ -1,5 +1,6 @@
+use super::asked::{Asked, RECORD};
+use super::outcome::Outcome;
 use super::summary::Summary;
-use super::words::{Asked, Outcome, RECORD};
 use script::answer::Reply;
 use std::fmt;
 
@@ -17,10 +18,7 @@ impl fmt::Display for Statement<'_> {
         if !self.brief {
             for (i, (bytes, reply)) in self.script.chunks(RECORD).zip(self.replies).enumerate() {
                 let asked = Asked::of(bytes, *reply);
-                let outcome = Outcome {
-                    asked,
-                    outcome: reply.outcome,
-                };
+                let outcome = Outcome::of(asked, reply.outcome);
                 writeln!(f, "{}: {asked}: {outcome}", i + 1)?;
             }
         }
