@@ -1,3 +1,5 @@
+use std::marker::Model;
+
 use super::pool::Pool;
 use super::slot::{Link, Slot};
 
@@ -5,7 +7,30 @@ use super::slot::{Link, Slot};
 /// The links upward stand beside the slots, so that writing a slot leaves them as they are.
 #[derive(Drop)]
 pub struct Tree {
-    pub slots: [Slot; 4160],
-    pub links: [Link; 65],
-    pub pool: Pool<64>,
+    pub(super) slots: [Slot; 4160],
+    pub(super) links: [Link; 65],
+    pub(super) pool: Pool<64>,
+}
+
+impl Model for Tree {
+    ghost use Rattle.tree.specs.Shape.{Shape};
+
+    ghost Value = { Shape };
+
+    ghost use Rattle.tree.specs.Soundness.{Sound};
+
+    ghost view = { λ t. record { slots = t.slots; links = t.links; pool = t.pool } };
+
+    ghost invariant = { λ t. Sound (record { slots = t.slots; links = t.links; pool = t.pool }) };
+}
+
+impl Tree {
+    ghost use Rattle.tree.specs.Soundness.{Sound};
+
+    // What every tree keeps.
+    pub(super) fn sound(&self)
+        ensures { Sound self.now }
+    {
+        let _ = &self.slots;
+    }
 }
