@@ -17,19 +17,19 @@ use counter::counter::Counter;
 use counter::kind::Nodes;
 use model::page::{Core, Mapping};
 
-impl Tree {
-    // Whether a slot is vacant and its block of SIZE pages is met in all of them.
-    fn whole<const SIZE: u32>(&self, n: NodeId, s: u32, pages: Pages) -> bool
-        requires { (n < 65) × (s < 64) }
-        ensures { result ≡ covers (slot_at self.now.slots n s) (pages.last - pages.first) SIZE }
+impl Slot {
+    // Whether the slot is vacant and its block of SIZE pages is met in all of them.
+    fn whole<const SIZE: u32>(self, pages: Pages) -> bool
+        ensures { result ≡ covers self (pages.last - pages.first) SIZE }
     {
-        match self.at(n, s) {
+        match self {
             Slot::Vacant => pages.len() == SIZE,
-            Slot::Child(_) => false,
-            Slot::Value(_) => false,
+            Slot::Child(_) | Slot::Value(_) => false,
         }
     }
+}
 
+impl Tree {
     // Fills pages of one leaf.
     fn fill_leaf(&mut self, n: NodeId, pages: Pages, e: Mapping)
         requires fits { Within e }
@@ -82,12 +82,13 @@ impl Tree {
     {
         self.sound();
         let s = pages.first / 64 % 64;
-        if self.whole::<64>(m, s, pages) {
+        let slot = self.at(m, s);
+        if slot.whole::<64>(pages) {
             self.put(m, s, e);
             tell(counter, older, core, m);
             return;
         }
-        match self.at(m, s) {
+        match slot {
             Slot::Vacant => {
                 let n = self.grow(m, s);
                 tell(counter, older, core, m);
@@ -158,12 +159,13 @@ impl Tree {
     {
         self.sound();
         let s = pages.first / 4096;
-        if self.whole::<4096>(1, s, pages) {
+        let slot = self.at(1, s);
+        if slot.whole::<4096>(pages) {
             self.put(1, s, e);
             counter.revive(core, 1);
             return;
         }
-        match self.at(1, s) {
+        match slot {
             Slot::Vacant => {
                 let m = self.grow(1, s);
                 counter.revive(core, 1);

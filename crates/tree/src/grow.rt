@@ -21,11 +21,7 @@ impl Tree {
     {
         let mut pool = Pool::full(nodes);
         let root = pool.draw().place();
-        let mut links = [Link {
-            level: 0,
-            parent: 0,
-            place: 0,
-        }; 65];
+        let mut links = [Link::default(); 65];
         links[root as usize] = Link {
             level: 1,
             parent: 0,

@@ -11,6 +11,19 @@ use super::slot::{NodeId, Slot};
 use super::table::Tree;
 use model::fault::TreeFault;
 
+impl Slot {
+    // How many children a slot above a leaf draws, where its block of 64 pages is met in these.
+    fn need(self, pages: Pages) -> usize
+        ensures is { result ≡ part self (pages.last - pages.first) }
+        ensures few { result ≤ 1 }
+    {
+        match self {
+            Slot::Vacant => { if pages.len() == 64 { 0 } else { 1 } }
+            Slot::Child(_) | Slot::Value(_) => 0,
+        }
+    }
+}
+
 impl Tree {
     /// How many nodes can be drawn.
     pub fn free_nodes(&self) -> usize
@@ -26,19 +39,6 @@ impl Tree {
         self.pool.in_use()
     }
 
-    // Of the pages of one block under a middle node.
-    fn need_of_slot(&self, m: NodeId, pages: Pages) -> usize
-        requires { m < 65 }
-        ensures is { result ≡ part (slot_at self.now.slots m (pages.first / 64 % 64)) (pages.last - pages.first) }
-        ensures few { result ≤ 1 }
-    {
-        match self.at(m, pages.first / 64 % 64) {
-            Slot::Vacant => { if pages.len() == 64 { 0 } else { 1 } }
-            Slot::Child(_) => 0,
-            Slot::Value(_) => 0,
-        }
-    }
-
     // The children that a fill under a middle node draws: only the first and the last block can be met in part.
     // Node 0 stands for one with vacant slots.
     fn need_of_middle(&self, m: NodeId, pages: Pages) -> usize
@@ -46,7 +46,7 @@ impl Tree {
         ensures is { result ≡ need_mid self.now.slots m pages.first pages.last }
         ensures few { result ≤ 2 }
     {
-        pages.at_ends::<64, _>(|part| self.need_of_slot(m, part))
+        pages.at_ends::<64, _>(|part| self.at(m, part.first / 64 % 64).need(part))
     }
 
     fn need_of_top(&self, pages: Pages) -> usize

@@ -1,7 +1,6 @@
-use std::marker::Model;
-
 use super::pool::Pool;
 use super::slot::{Link, Slot};
+use std::marker::Model;
 
 /// The radix tree. Slot s of node n is at n × 64 + s; nodes are numbered from 1, and node 0 is none.
 /// The links upward stand beside the slots, so that writing a slot leaves them as they are.

@@ -23,8 +23,9 @@ put-requires-clause-live g c =
 
 pub tell-requires : goal.tell-requires
 tell-requires g c =
+    let whole = rw c.at-slot.ensures at c.if-whole.ensures in
     let l = mid_level c.args.self.now c.args.m c.args.pages.first c.args.pages.last c.args.e c.sound.ensures c.args.pages.some c.args.pages.small c.requires.block c.requires.path c.requires.free in
-    let v = covers_true (slot_at c.args.self.now.slots c.args.m (c.args.pages.first / 64 % 64)) (c.args.pages.last - c.args.pages.first) 64 c.if-whole.ensures in
+    let v = covers_true (slot_at c.args.self.now.slots c.args.m (c.args.pages.first / 64 % 64)) (c.args.pages.last - c.args.pages.first) 64 whole in
     let live : 0 < (link_at c.args.self.now.links c.args.m).level = omega (arith, l) in
     record {
       core = c.requires.core;
@@ -36,8 +37,9 @@ tell-requires g c =
 
 pub returns-then-whole : goal.returns-then-whole
 returns-then-whole g c =
+    let whole = rw c.at-slot.ensures at c.if-whole.ensures in
     let l = mid_level c.args.self.now c.args.m c.args.pages.first c.args.pages.last c.args.e c.sound.ensures c.args.pages.some c.args.pages.small c.requires.block c.requires.path c.requires.free in
-    let v = covers_true (slot_at c.args.self.now.slots c.args.m (c.args.pages.first / 64 % 64)) (c.args.pages.last - c.args.pages.first) 64 c.if-whole.ensures in
+    let v = covers_true (slot_at c.args.self.now.slots c.args.m (c.args.pages.first / 64 % 64)) (c.args.pages.last - c.args.pages.first) 64 whole in
     let live : 0 < (link_at c.args.self.now.links c.args.m).level = omega (arith, l) in
     let tell = c.tell.ensures in
     record {
@@ -45,9 +47,9 @@ returns-then-whole g c =
       told = subst (λ (os : List Operation). Follows g.C.Counter.steps os c.args.counter.now c.tell.new.counter)
           (sym (told_whole c.args.m c.args.pages.first c.args.pages.last c.args.e c.args.self.now c.args.older c.args.core v.0 v.1))
           (follows_then g.C.Counter.steps _ [] _ _ _ tell.told (follows_none g.C.Counter.steps _));
-      filled = whole_filled _ _ _ _ _ c.sound.ensures c.args.pages.some c.args.pages.small c.requires.block c.requires.path c.requires.free _ c.if-whole.ensures c.put.ensures c.requires.fits;
-      left = whole_left _ _ _ _ _ c.sound.ensures c.args.pages.some c.args.pages.small c.requires.block c.requires.path c.requires.free _ c.if-whole.ensures c.put.ensures;
-      others = whole_others _ _ _ _ _ c.sound.ensures c.args.pages.some c.args.pages.small c.requires.block c.requires.path c.requires.free _ c.if-whole.ensures c.put.ensures;
+      filled = whole_filled _ _ _ _ _ c.sound.ensures c.args.pages.some c.args.pages.small c.requires.block c.requires.path c.requires.free _ whole c.put.ensures c.requires.fits;
+      left = whole_left _ _ _ _ _ c.sound.ensures c.args.pages.some c.args.pages.small c.requires.block c.requires.path c.requires.free _ whole c.put.ensures;
+      others = whole_others _ _ _ _ _ c.sound.ensures c.args.pages.some c.args.pages.small c.requires.block c.requires.path c.requires.free _ whole c.put.ensures;
       counted = but_put c.args.older c.args.m _ _ c.args.self.now c.put.new.self (c.args.pages.first / 64 % 64) _ c.sound.ensures c.requires.counted live (omega arith) v.0 c.put.ensures tell.changed;
       idle = λ n h.
           let was : (link_at c.args.self.now.links n).level ≡ 0 = sym (ap (λ (u : Tree). (link_at u.links n).level) c.put.ensures) ∙ h in
@@ -59,8 +61,9 @@ returns-then-whole g c =
 
 pub grow-n-requires : goal.grow-n-requires
 grow-n-requires g c =
+    let whole = rw c.at-slot.ensures at c.if-whole.ensures in
     let l = mid_level c.args.self.now c.args.m c.args.pages.first c.args.pages.last c.args.e c.sound.ensures c.args.pages.some c.args.pages.small c.requires.block c.requires.path c.requires.free in
-    let p = part_open (slot_at c.args.self.now.slots c.args.m (c.args.pages.first / 64 % 64)) (c.args.pages.last - c.args.pages.first) c.if-whole.ensures in
+    let p = part_open (slot_at c.args.self.now.slots c.args.m (c.args.pages.first / 64 % 64)) (c.args.pages.last - c.args.pages.first) whole in
     let v : vacancy (slot_at c.args.self.now.slots c.args.m (c.args.pages.first / 64 % 64)) ≡ 1 = ap vacancy (sym c.in-Vacant.ensures) in
     record {
       some = omega (arith, p, v, c.requires.room);
@@ -136,12 +139,13 @@ revive_all-requires g c =
 
 pub returns-in-Vacant : goal.returns-in-Vacant
 returns-in-Vacant g c =
+    let whole = rw c.at-slot.ensures at c.if-whole.ensures in
     let give = rw c.len.ensures at c.give.ensures in
     let l = mid_level c.args.self.now c.args.m c.args.pages.first c.args.pages.last c.args.e c.sound.ensures c.args.pages.some c.args.pages.small c.requires.block c.requires.path c.requires.free in
     let live : 0 < (link_at c.args.self.now.links c.args.m).level = omega (arith, l) in
     let w = c.grow-n.ensures.hung in
     let was = sym c.in-Vacant.ensures in
-    let part = open_vacant (slot_at c.args.self.now.slots c.args.m (c.args.pages.first / 64 % 64)) (c.args.pages.last - c.args.pages.first) 64 was c.if-whole.ensures in
+    let part = open_vacant (slot_at c.args.self.now.slots c.args.m (c.args.pages.first / 64 % 64)) (c.args.pages.last - c.args.pages.first) 64 was whole in
     let i = hung_entered c.args.m (c.args.pages.first / 64 % 64) c.grow-n.result c.args.self.now c.grow-n.new.self c.sound.ensures (omega arith) c.requires.node live was w in
     let f = c.fill_leaf.ensures in
     let tell = c.tell-in-Vacant.ensures in
@@ -159,8 +163,8 @@ returns-in-Vacant g c =
           (subst (λ (k : ℕ). Follows g.C.Counter.steps (Give k (c.args.pages.last - c.args.pages.first) ∷ []) c.tell-in-Vacant.new.counter c.give.new.self) c.grow-n.ensures.child
           (follows_one g.C.Counter.steps _ _ _ give.exact)));
       filled = filled_then c.args.pages.first c.args.pages.first c.args.pages.last c.args.e _ _ _ (omega arith) (omega arith) (entered_filled _ _ _ _ _ _ _ i) f.filled;
-      left = inner_left _ _ _ _ c.args.e c.sound.ensures c.args.pages.some c.args.pages.small c.requires.block c.requires.path c.requires.free c.grow-n.new.self c.fill_leaf.new.self c.grow-n.result c.if-whole.ensures i f.filled f.left f.others;
-      others = inner_others _ _ _ _ c.args.e c.sound.ensures c.args.pages.some c.args.pages.small c.requires.block c.requires.path c.requires.free c.grow-n.new.self c.fill_leaf.new.self c.grow-n.result c.if-whole.ensures i f.filled f.left f.others;
+      left = inner_left _ _ _ _ c.args.e c.sound.ensures c.args.pages.some c.args.pages.small c.requires.block c.requires.path c.requires.free c.grow-n.new.self c.fill_leaf.new.self c.grow-n.result whole i f.filled f.left f.others;
+      others = inner_others _ _ _ _ c.args.e c.sound.ensures c.args.pages.some c.args.pages.small c.requires.block c.requires.path c.requires.free c.grow-n.new.self c.fill_leaf.new.self c.grow-n.result whole i f.filled f.left f.others;
       counted = but_new c.args.older c.args.m c.args.self.now c.grow-n.new.self (c.args.pages.first / 64 % 64) c.grow-n.result c.sound.ensures c.requires.node (omega arith) live was w _ _ _ c.fill_leaf.new.self (c.args.pages.last - c.args.pages.first) c.requires.counted tell.changed gave f.gained f.links f.others;
       idle = λ n h.
           let mid : (link_at c.grow-n.new.self.links n).level ≡ 0 = sym (ap (λ (u : List Link). (link_at u n).level) f.links) ∙ h in
@@ -174,6 +178,7 @@ returns-in-Vacant g c =
 
 pub returns-in-Child : goal.returns-in-Child
 returns-in-Child g c =
+    let whole = rw c.at-slot.ensures at c.if-whole.ensures in
     let a = sym c.in-Child.ensures in
     let l = level_3 c.args.self.now.slots c.args.self.now.slots c.args.self.now.links c.sound.ensures.linked c.args.pages.first c.args.m c.in-Child.n (omega arith) c.requires.path a in
     let lm = mid_level c.args.self.now c.args.m c.args.pages.first c.args.pages.last c.args.e c.sound.ensures c.args.pages.some c.args.pages.small c.requires.block c.requires.path c.requires.free in
@@ -188,8 +193,8 @@ returns-in-Child g c =
           (sym (told_child c.args.m c.args.pages.first c.args.pages.last c.args.e c.args.self.now c.args.older c.args.core c.in-Child.n a))
           r.told;
       filled = f.filled;
-      left = inner_left _ _ _ _ c.args.e c.sound.ensures c.args.pages.some c.args.pages.small c.requires.block c.requires.path c.requires.free c.args.self.now c.fill_leaf-in-Child.new.self c.in-Child.n c.if-whole.ensures i f.filled f.left f.others;
-      others = inner_others _ _ _ _ c.args.e c.sound.ensures c.args.pages.some c.args.pages.small c.requires.block c.requires.path c.requires.free c.args.self.now c.fill_leaf-in-Child.new.self c.in-Child.n c.if-whole.ensures i f.filled f.left f.others;
+      left = inner_left _ _ _ _ c.args.e c.sound.ensures c.args.pages.some c.args.pages.small c.requires.block c.requires.path c.requires.free c.args.self.now c.fill_leaf-in-Child.new.self c.in-Child.n whole i f.filled f.left f.others;
+      others = inner_others _ _ _ _ c.args.e c.sound.ensures c.args.pages.some c.args.pages.small c.requires.block c.requires.path c.requires.free c.args.self.now c.fill_leaf-in-Child.new.self c.in-Child.n whole i f.filled f.left f.others;
       counted = but_leaf c.args.older c.args.m _ _ c.args.self.now c.fill_leaf-in-Child.new.self c.in-Child.n (c.args.pages.last - c.args.pages.first) c.requires.counted live
           apart r.changed f.gained f.links f.others;
       idle = λ n h.

@@ -16,8 +16,9 @@ use Rattle.tree.proofs.table.Tree.fill_top.Goals as goal
 
 pub revive-requires : goal.revive-requires
 revive-requires g c =
+    let whole = rw c.at-slot.ensures at c.if-whole.ensures in
     let live : 0 < (link_at c.args.self.now.links 1).level = omega (arith, c.sound.ensures.linked.root) in
-    let v = covers_true (slot_at c.args.self.now.slots 1 (c.args.pages.first / 4096)) (c.args.pages.last - c.args.pages.first) 4096 c.if-whole.ensures in
+    let v = covers_true (slot_at c.args.self.now.slots 1 (c.args.pages.first / 4096)) (c.args.pages.last - c.args.pages.first) 4096 whole in
     record {
       exists = (omega arith, omega arith);
       serves = c.requires.core;
@@ -32,17 +33,18 @@ revive-requires g c =
 
 pub returns-then-whole : goal.returns-then-whole
 returns-then-whole g c =
+    let whole = rw c.at-slot.ensures at c.if-whole.ensures in
     let live : 0 < (link_at c.args.self.now.links 1).level = omega (arith, c.sound.ensures.linked.root) in
-    let v = covers_true (slot_at c.args.self.now.slots 1 (c.args.pages.first / 4096)) (c.args.pages.last - c.args.pages.first) 4096 c.if-whole.ensures in
+    let v = covers_true (slot_at c.args.self.now.slots 1 (c.args.pages.first / 4096)) (c.args.pages.last - c.args.pages.first) 4096 whole in
     let rose = raised_changed 1 (g.C.Counter.meaning c.args.counter.now) (g.C.Counter.meaning c.revive.new.self) c.revive.ensures.means in
     record {
       exact = c.put.ensures ∙ sym (top_whole c.args.pages.first c.args.pages.last c.args.e c.args.self.now v.0 v.1);
       told = subst (λ (os : List Operation). Follows g.C.Counter.steps os c.args.counter.now c.revive.new.self)
           (sym (told_top_whole c.args.pages.first c.args.pages.last c.args.e c.args.self.now c.args.core v.0 v.1))
           (follows_one g.C.Counter.steps _ _ _ c.revive.ensures.exact);
-      filled = top_filled _ _ _ _ c.sound.ensures c.args.pages.some c.args.pages.small c.requires.block _ c.if-whole.ensures c.put.ensures c.requires.fits;
-      left = top_left _ _ _ _ c.sound.ensures c.args.pages.some c.args.pages.small c.requires.block _ c.if-whole.ensures c.put.ensures;
-      others = top_others _ _ _ _ c.sound.ensures c.args.pages.some c.args.pages.small c.requires.block _ c.if-whole.ensures c.put.ensures;
+      filled = top_filled _ _ _ _ c.sound.ensures c.args.pages.some c.args.pages.small c.requires.block _ whole c.put.ensures c.requires.fits;
+      left = top_left _ _ _ _ c.sound.ensures c.args.pages.some c.args.pages.small c.requires.block _ whole c.put.ensures;
+      others = top_others _ _ _ _ c.sound.ensures c.args.pages.some c.args.pages.small c.requires.block _ whole c.put.ensures;
       counted = counted_put _ _ c.args.self.now c.put.new.self 1 (c.args.pages.first / 4096) _ c.sound.ensures c.requires.counted live (omega arith) v.0 c.put.ensures rose;
       idle = λ n h.
           let was : (link_at c.args.self.now.links n).level ≡ 0 = sym (ap (λ (u : Tree). (link_at u.links n).level) c.put.ensures) ∙ h in
@@ -52,8 +54,9 @@ returns-then-whole g c =
 
 pub grow-m-requires : goal.grow-m-requires
 grow-m-requires g c =
+    let whole = rw c.at-slot.ensures at c.if-whole.ensures in
     let r = c.sound.ensures.linked.root in
-    let v = vacancy_first c.args.self.now.slots (slot_at c.args.self.now.slots 1 (c.args.pages.first / 4096)) c.args.pages.first c.args.pages.last c.if-whole.ensures in
+    let v = vacancy_first c.args.self.now.slots (slot_at c.args.self.now.slots 1 (c.args.pages.first / 4096)) c.args.pages.first c.args.pages.last whole in
     let one : vacancy (slot_at c.args.self.now.slots 1 (c.args.pages.first / 4096)) ≡ 1 = ap vacancy (sym c.in-Vacant.ensures) in
     record {
       some = omega (arith, v, one, c.requires.room);
@@ -93,12 +96,13 @@ give-requires g c =
 
 pub fill_middle-requires : goal.fill_middle-requires
 fill_middle-requires g c =
+    let whole = rw c.at-slot.ensures at c.if-whole.ensures in
     let give = rw c.blocks_met.ensures at c.give.ensures in
     let live : 0 < (link_at c.args.self.now.links 1).level = omega (arith, c.sound.ensures.linked.root) in
     let was = sym c.in-Vacant.ensures in
     let w = c.grow-m.ensures.hung in
     let i = hung_entered 1 (c.args.pages.first / 4096) c.grow-m.result c.args.self.now c.grow-m.new.self c.sound.ensures (omega arith) (omega arith) live was w in
-    let n = inner_need c.args.self.now c.args.pages.first c.args.pages.last c.args.e c.sound.ensures c.args.pages.some c.args.pages.small c.requires.block c.grow-m.new.self c.grow-m.result i c.if-whole.ensures
+    let n = inner_need c.args.self.now c.args.pages.first c.args.pages.last c.args.e c.sound.ensures c.args.pages.some c.args.pages.small c.requires.block c.grow-m.new.self c.grow-m.result i whole
     (root_open _ c.args.pages.first (c.requires.free c.args.pages.first (omega arith) c.args.pages.some)) in
     let rose = raised_changed 1 (g.C.Counter.meaning c.args.counter.now) (g.C.Counter.meaning c.revive-in-Vacant.new.self) c.revive-in-Vacant.ensures.means in
     let gave = given_changed c.grow-m.result ((c.args.pages.last - 1) / 64 + 1 - c.args.pages.first / 64) (g.C.Counter.meaning c.revive-in-Vacant.new.self) (g.C.Counter.meaning c.give.new.self) give.means in
@@ -121,9 +125,10 @@ fill_middle-requires g c =
 
 pub fill_middle-requires-in-Child : goal.fill_middle-requires-in-Child
 fill_middle-requires-in-Child g c =
+    let whole = rw c.at-slot.ensures at c.if-whole.ensures in
     let a = sym c.in-Child.ensures in
     let i = child_entered 1 (c.args.pages.first / 4096) c.in-Child.m c.args.self.now c.sound.ensures (omega arith) a in
-    let n = inner_need c.args.self.now c.args.pages.first c.args.pages.last c.args.e c.sound.ensures c.args.pages.some c.args.pages.small c.requires.block c.args.self.now c.in-Child.m i c.if-whole.ensures
+    let n = inner_need c.args.self.now c.args.pages.first c.args.pages.last c.args.e c.sound.ensures c.args.pages.some c.args.pages.small c.requires.block c.args.self.now c.in-Child.m i whole
     (root_open _ c.args.pages.first (c.requires.free c.args.pages.first (omega arith) c.args.pages.some)) in
     record {
       fits = c.requires.fits;
@@ -139,13 +144,14 @@ fill_middle-requires-in-Child g c =
 
 pub returns-in-Vacant : goal.returns-in-Vacant
 returns-in-Vacant g c =
+    let whole = rw c.at-slot.ensures at c.if-whole.ensures in
     let give = rw c.blocks_met.ensures at c.give.ensures in
     let live : 0 < (link_at c.args.self.now.links 1).level = omega (arith, c.sound.ensures.linked.root) in
     let was = sym c.in-Vacant.ensures in
     let w = c.grow-m.ensures.hung in
-    let part = open_vacant (slot_at c.args.self.now.slots 1 (c.args.pages.first / 4096)) (c.args.pages.last - c.args.pages.first) 4096 was c.if-whole.ensures in
+    let part = open_vacant (slot_at c.args.self.now.slots 1 (c.args.pages.first / 4096)) (c.args.pages.last - c.args.pages.first) 4096 was whole in
     let i = hung_entered 1 (c.args.pages.first / 4096) c.grow-m.result c.args.self.now c.grow-m.new.self c.sound.ensures (omega arith) (omega arith) live was w in
-    let n = inner_need c.args.self.now c.args.pages.first c.args.pages.last c.args.e c.sound.ensures c.args.pages.some c.args.pages.small c.requires.block c.grow-m.new.self c.grow-m.result i c.if-whole.ensures
+    let n = inner_need c.args.self.now c.args.pages.first c.args.pages.last c.args.e c.sound.ensures c.args.pages.some c.args.pages.small c.requires.block c.grow-m.new.self c.grow-m.result i whole
     (root_open _ c.args.pages.first (c.requires.free c.args.pages.first (omega arith) c.args.pages.some)) in
     let f = c.fill_middle.ensures in
     let gave = given_changed c.grow-m.result ((c.args.pages.last - 1) / 64 + 1 - c.args.pages.first / 64) (g.C.Counter.meaning c.revive-in-Vacant.new.self) (g.C.Counter.meaning c.give.new.self) give.means in
@@ -170,9 +176,10 @@ returns-in-Vacant g c =
 
 pub returns-in-Child : goal.returns-in-Child
 returns-in-Child g c =
+    let whole = rw c.at-slot.ensures at c.if-whole.ensures in
     let a = sym c.in-Child.ensures in
     let i = child_entered 1 (c.args.pages.first / 4096) c.in-Child.m c.args.self.now c.sound.ensures (omega arith) a in
-    let n = inner_need c.args.self.now c.args.pages.first c.args.pages.last c.args.e c.sound.ensures c.args.pages.some c.args.pages.small c.requires.block c.args.self.now c.in-Child.m i c.if-whole.ensures
+    let n = inner_need c.args.self.now c.args.pages.first c.args.pages.last c.args.e c.sound.ensures c.args.pages.some c.args.pages.small c.requires.block c.args.self.now c.in-Child.m i whole
     (root_open _ c.args.pages.first (c.requires.free c.args.pages.first (omega arith) c.args.pages.some)) in
     let f = c.fill_middle-in-Child.ensures in
     record {

@@ -1,4 +1,4 @@
-use Rattle.std.proofs.Common.{sym, ap, ◌∙◌, subst}
+use Rattle.std.proofs.Common.{ap, ◌∙◌}
 use Rattle.tree.specs.Shape.{Shape}
 use Rattle.tree.specs.Pools.{next_object}
 use Rattle.tree.specs.Changes.{grown}
