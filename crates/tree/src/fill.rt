@@ -139,7 +139,7 @@ impl Tree {
         }
     }
 
-    // Fills pages under one slot of the root.
+    // Fills pages under one slot of the root. Not one with a block's: what a middle node gains is told as it is filled, a leaf's after.
     fn fill_top<C: Counter<Nodes>>(&mut self, counter: &mut C, core: Core, pages: Pages, e: Mapping)
         requires fits { Within e }
         requires block { (pages.last - 1) / 4096 ≡ pages.first / 4096 }

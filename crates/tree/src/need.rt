@@ -49,6 +49,7 @@ impl Tree {
         pages.at_ends::<64, _>(|part| self.at(m, part.first / 64 % 64).need(part))
     }
 
+    // Under one slot of the root. Not one function with a slot's above a leaf: a new middle node draws children of its own.
     fn need_of_top(&self, pages: Pages) -> usize
         ensures is { result ≡ root_part self.now.slots (slot_at self.now.slots 1 (pages.first / 4096)) pages.first pages.last }
         ensures few { result ≤ 3 }

@@ -4,6 +4,7 @@ use std::marker::Model;
 
 /// The radix tree. Slot s of node n is at n × 64 + s; nodes are numbered from 1, and node 0 is none.
 /// The links upward stand beside the slots, so that writing a slot leaves them as they are.
+/// Every tree is sound: links, slots and pool agree whenever a call begins or ends.
 #[derive(Drop)]
 pub struct Tree {
     pub(super) slots: [Slot; 4160],
@@ -26,7 +27,7 @@ impl Model for Tree {
 impl Tree {
     ghost use Rattle.tree.specs.Soundness.{Sound};
 
-    // What every tree keeps.
+    // A walk begins with this, which runs nothing: its proof learns that the tree is sound, and contracts need not ask it.
     pub(super) fn sound(&self)
         ensures { Sound self.now }
     {
