@@ -1,2 +1,2 @@
+pub mod Lists
 pub mod Runs
-pub mod Tables

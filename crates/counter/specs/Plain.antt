@@ -1,18 +1,16 @@
 -- What the plain count keeps, and what exactly each operation makes of it.
-use Rattle.std.specs.Prelude.{◌≡◌, ℕ, ◌+◌, ◌-◌, ◌^◌, ◌<◌, ◌≤◌, Bool, false, cond, List, replicate, Some, None, Option, ◌==◌, bit_or, slice_index_or, slice_set}
-use Rattle.model.specs.CoreSets.{member, all_below}
+use Rattle.std.specs.Prelude.{◌≡◌, ℕ, ◌+◌, ◌-◌, ◌<◌, ◌≤◌, Bool, false, cond, List, replicate, Some, None, Option, ◌==◌, slice_index_or, slice_set}
+use Rattle.counter.specs.declared.epoch.Clock.{Clock}
 use Rattle.counter.specs.Meaning.{Meaning, how_many, Operation}
 use Rattle.counter.specs.Meaning.Operation.{Give, Up, Down, Revive, Fold, Judge, Close}
+use Rattle.counter.specs.Clocks.{clock_meaning, clock_started, clock_folds, clock_closes}
 use Rattle.counter.specs.Operations.{Object}
 use Rattle.counter.specs.Timeline.{Timeline}
 
--- the number of holders of each object in use, and the marks of the cores as sets
+-- the number of holders of each object in use, and the epoch with its marks
 pub record Table : Type 0 where
   pub counts : List (Option ℕ)
-  pub cores : ℕ
-  pub epoch : ℕ
-  pub folded : ℕ
-  pub closed : ℕ
+  pub clock : Clock
 
 -- the count of an object
 abbrev pub count_at : Table → ℕ → Option ℕ
@@ -20,11 +18,11 @@ count_at t o = slice_index_or t.counts o None
 
 -- what a table means
 abbrev pub table_meaning : Table → Meaning
-table_meaning t = record { cores = t.cores; epoch = t.epoch; holders = count_at t; folded = member t.folded; closed = member t.closed }
+table_meaning t = clock_meaning t.clock (count_at t)
 
 -- every object free, no mark set
 abbrev pub blank_table : ℕ → ℕ → Table
-blank_table cores epoch = record { counts = replicate 1025 None; cores = cores; epoch = epoch; folded = 0; closed = 0 }
+blank_table cores epoch = record { counts = replicate 1025 None; clock = clock_started cores epoch }
 
 -- in use, and nobody holds it
 abbrev pub unheld : Option ℕ → Bool
@@ -33,29 +31,25 @@ unheld (Some n) = n == 0
 
 -- the table with another count of object o
 abbrev pub put_count : ℕ → Option ℕ → Table → Table
-put_count o x t = record { counts = slice_set t.counts o x; cores = t.cores; epoch = t.epoch; folded = t.folded; closed = t.closed }
+put_count o x t = record { counts = slice_set t.counts o x; clock = t.clock }
 
--- the core has folded
-abbrev pub mark_folded : ℕ → Table → Table
-mark_folded c t = record { counts = t.counts; cores = t.cores; epoch = t.epoch; folded = bit_or t.folded (2 ^ c); closed = t.closed }
+-- the object has one holder more
+abbrev pub one_more : ℕ → Table → Table
+one_more o t = put_count o (Some (how_many (count_at t o) + 1)) t
 
--- the core has closed
-abbrev pub mark_closed : ℕ → Table → Table
-mark_closed c t = record { counts = t.counts; cores = t.cores; epoch = t.epoch; folded = t.folded; closed = bit_or t.closed (2 ^ c) }
-
--- the table in the next epoch
-abbrev pub turned : Table → Table
-turned t = record { counts = t.counts; cores = t.cores; epoch = t.epoch + 1; folded = 0; closed = 0 }
+-- the table with another clock
+abbrev pub at_clock : Clock → Table → Table
+at_clock k t = record { counts = t.counts; clock = k }
 
 -- the table after one operation
 abbrev pub table_after : Operation → Table → Table
 table_after (Give o n) t = put_count o (Some n) t
-table_after (Up c o) t = put_count o (Some (how_many (count_at t o) + 1)) t
+table_after (Up c o) t = one_more o t
 table_after (Down c o) t = put_count o (Some (how_many (count_at t o) - 1)) t
-table_after (Revive c o) t = put_count o (Some (how_many (count_at t o) + 1)) t
-table_after (Fold c) t = mark_folded c t
+table_after (Revive c o) t = one_more o t
+table_after (Fold c) t = at_clock (clock_folds c t.clock) t
 table_after (Judge c o dead) t = cond dead (put_count o None t) t
-table_after (Close c) t = cond (all_below t.cores (member (mark_closed c t).closed)) (turned t) (mark_closed c t)
+table_after (Close c) t = at_clock (clock_closes c t.clock) t
 
 -- dead is said exactly of an object in use without holders
 abbrev pub AnswersRight : Table → Operation → Type 0
@@ -74,8 +68,8 @@ pub record TableSteps (t : Table) (op : Operation) (u : Table) : Type 0 where
 
 -- an object without holders lost the last one in this epoch, or in the one before and no core has judged it since
 pub record SoonJudged (t : Table) (p : Timeline) (o : ℕ) : Type 0 where
-  pub soon : t.epoch ≤ p.since o + 1
-  pub unseen : p.since o < t.epoch → (c : ℕ) → p.judged c o ≡ false
+  pub soon : t.clock.epoch ≤ p.since o + 1
+  pub unseen : p.since o < t.clock.epoch → (c : ℕ) → p.judged c o ≡ false
 
 -- so of every object without holders
 abbrev pub TableTimely : ℕ → Table → Timeline → Type 0

@@ -3,24 +3,14 @@ use Rattle.std.specs.Prelude.{◌≡◌, ℕ, ◌<◌, ◌≤◌, Bool, true, fa
 use Rattle.std.proofs.Common.{sym, ap, subst, ◌∙◌, ⊎_elim, arith, get_or-set_same, get_or-set_other}
 use Rattle.std.proofs.Math.Path.{fun_ext}
 use Rattle.std.proofs.lemmas.Bool.{eqb-true, cases_eq, cases_lt, both_ways}
-use Rattle.model.specs.CoreSets.{member, all_below}
 use Rattle.counter.specs.Meaning.{put_at, with_holders, Operation}
 use Rattle.counter.specs.Meaning.Operation.{Give, Up, Down, Revive, Fold, Judge, Close}
 use Rattle.counter.specs.Operations.{Allowed, Does}
 use Rattle.counter.specs.Timeline.{Timeline, note_loss, note_judgement, note_epoch, noted, InTurn, Swept}
-use Rattle.counter.specs.declared.epoch.Clock.{Clock}
-use Rattle.counter.specs.Clocks.{clock_meaning, clock_turned, clock_marked}
-use Rattle.counter.specs.Plain.{Table, count_at, table_meaning, unheld, put_count, turned, mark_closed, table_after, TableSteps, TableTimely}
+use Rattle.counter.specs.Clocks.{clock_meaning, clock_turned, clock_marked, last_to_close}
+use Rattle.counter.specs.Plain.{Table, count_at, table_meaning, unheld, put_count, at_clock, table_after, TableSteps, TableTimely}
 use Rattle.counter.specs.ClocksLemmas.{folds_means, closes_means, last_means}
 use Rattle.counter.specs.Meanings.{put_here, put_elsewhere, put_is, none_not, some_is, judged_other}
-
--- the epoch of a table with its marks, as a clock
-abbrev pub clock_of : Table → Clock
-clock_of t = record { cores = t.cores; epoch = t.epoch; folded = record { bits = t.folded }; closed = record { bits = t.closed } }
-
--- whether the core is the last one to close
-abbrev pub last_core_closes : ℕ → Table → Bool
-last_core_closes c t = all_below t.cores (member (mark_closed c t).closed)
 
 -- a table in which one count was written
 count_here : (o : ℕ) (x : Option ℕ) (t : Table) → o < length t.counts → count_at (put_count o x t) o ≡ x
@@ -32,7 +22,7 @@ count_other o q x t ne = get_or-set_other t.counts o q x None ne
 count_means : (o : ℕ) (x : Option ℕ) (t : Table) → o < length t.counts →
     table_meaning (put_count o x t) ≡ with_holders (put_at o x (count_at t)) (table_meaning t)
 count_means o x t lt =
-    ap (clock_meaning (clock_of t)) (fun_ext (put_is o x (count_at t) (count_at (put_count o x t)) (count_here o x t lt) (λ q ne. count_other o q x t ne)))
+    ap (clock_meaning t.clock) (fun_ext (put_is o x (count_at t) (count_at (put_count o x t)) (count_here o x t lt) (λ q ne. count_other o q x t ne)))
 
 -- an object without holders is one that the answer finds
 unheld_is : (x : Option ℕ) → true ≡ unheld x → x ≡ Some 0
@@ -44,22 +34,17 @@ held_not x e z = both_ways (unheld x) (sym e) (ap unheld z)
 
 -- The meaning
 
-closing_means : (last : Bool) (c : ℕ) (t : Table) →
-    table_meaning (cond last (turned t) (mark_closed c t)) ≡ clock_meaning (cond last (clock_turned (clock_of t)) (clock_marked c (clock_of t))) (count_at t)
-closing_means true c t = refl
-closing_means false c t = refl
-
 pub plain_means : (capacity : ℕ) (revives : Bool) (t u : Table) (op : Operation) → capacity < length t.counts →
     Allowed capacity revives (table_meaning t) op → TableSteps t op u → Does op (table_meaning t) (table_meaning u)
 plain_means capacity revives t u (Give o n) room may step = ap table_meaning step.table ∙ count_means o _ t (omega (arith, may.0.1))
 plain_means capacity revives t u (Up c o) room may step = ap table_meaning step.table ∙ count_means o _ t (omega (arith, may.0.1))
 plain_means capacity revives t u (Down c o) room may step = ap table_meaning step.table ∙ count_means o _ t (omega (arith, may.0.1))
 plain_means capacity revives t u (Revive c o) room may step = ap table_meaning step.table ∙ count_means o _ t (omega (arith, may.0.1))
-plain_means capacity revives t u (Fold c) room may step = ap table_meaning step.table ∙ folds_means c (clock_of t) (count_at t)
+plain_means capacity revives t u (Fold c) room may step = ap table_meaning step.table ∙ folds_means c t.clock (count_at t)
 plain_means capacity revives t u (Judge c o true) room may step =
     (unheld_is (count_at t o) step.answer, ap table_meaning step.table ∙ count_means o None t (omega (arith, may.0.1)))
 plain_means capacity revives t u (Judge c o false) room may step = ap table_meaning step.table
-plain_means capacity revives t u (Close c) room may step = ap table_meaning step.table ∙ closing_means (last_core_closes c t) c t ∙ closes_means c (clock_of t) (count_at t)
+plain_means capacity revives t u (Close c) room may step = ap table_meaning step.table ∙ closes_means c t.clock (count_at t)
 
 -- The time
 
@@ -75,9 +60,9 @@ held_timely capacity o n t p lt some timely q is z =
     (cases_eq q o)
 
 loss_timely : (capacity o n : ℕ) (t : Table) (p : Timeline) → TableTimely capacity t p →
-    TableTimely capacity (put_count o (Some n) t) (note_loss o t.epoch p)
+    TableTimely capacity (put_count o (Some n) t) (note_loss o t.clock.epoch p)
 loss_timely capacity o n t p timely q is z =
-    let epoch = t.epoch in
+    let epoch = t.clock.epoch in
     ⊎_elim
     (λ (e : q ≡ o).
     let now : put_at o epoch p.since q ≡ epoch = ap (put_at o epoch p.since) e ∙ put_here o epoch p.since in
@@ -96,7 +81,7 @@ judge_leaves o q true t lt answer z =
     (ne, sym (count_other o q None t ne) ∙ z)
 judge_leaves o q false t lt answer z = (λ e. held_not (count_at t o) answer (ap (count_at t) (sym e) ∙ z), z)
 
-same_epoch : (dead : Bool) (o : ℕ) (t : Table) → (cond dead (put_count o None t) t).epoch ≡ t.epoch
+same_epoch : (dead : Bool) (o : ℕ) (t : Table) → (cond dead (put_count o None t) t).clock.epoch ≡ t.clock.epoch
 same_epoch true o t = refl
 same_epoch false o t = refl
 
@@ -105,7 +90,7 @@ judge_timely : (capacity c o : ℕ) (dead : Bool) (t : Table) (p : Timeline) →
 judge_timely capacity c o dead t p lt answer timely q is z =
     let left = judge_leaves o q dead t lt answer z in
     let s = timely q is left.1 in
-    let epoch : (cond dead (put_count o None t) t).epoch ≡ t.epoch = same_epoch dead o t in
+    let epoch : (cond dead (put_count o None t) t).clock.epoch ≡ t.clock.epoch = same_epoch dead o t in
     record {
       soon = omega (arith, epoch, s.soon);
       unseen = λ lost d. judged_other c o d q p left.0 ∙ s.unseen (omega (arith, epoch)) d;
@@ -113,13 +98,13 @@ judge_timely capacity c o dead t p lt answer timely q is z =
 
 -- a core that has judged every object has found each that lost its last holder before this epoch
 close_timely : (capacity c : ℕ) (last : Bool) (t : Table) (p : Timeline) → Swept capacity c p → TableTimely capacity t p →
-    TableTimely capacity (cond last (turned t) (mark_closed c t)) (cond last (note_epoch p) p)
+    TableTimely capacity (at_clock (cond last (clock_turned t.clock) (clock_marked c t.clock)) t) (cond last (note_epoch p) p)
 close_timely capacity c false t p swept timely q is z = let s = timely q is z in record { soon = s.soon; unseen = s.unseen }
 close_timely capacity c true t p swept timely q is z =
     let s = timely q is z in
-    let fresh : t.epoch ≤ p.since q =
-    ⊎_elim (λ (lt : p.since q < t.epoch). absurd (both_ways _ (s.unseen lt c) (swept q is))) (λ (le : t.epoch ≤ p.since q). le)
-    (cases_lt (p.since q) t.epoch) in
+    let fresh : t.clock.epoch ≤ p.since q =
+    ⊎_elim (λ (lt : p.since q < t.clock.epoch). absurd (both_ways _ (s.unseen lt c) (swept q is))) (λ (le : t.clock.epoch ≤ p.since q). le)
+    (cases_lt (p.since q) t.clock.epoch) in
     record { soon = omega (arith, fresh); unseen = λ _ d. refl }
 
 pub plain_onward : (capacity : ℕ) (revives : Bool) (t u : Table) (op : Operation) (p : Timeline) → capacity < length t.counts →
@@ -130,7 +115,7 @@ plain_onward capacity revives t u (Give o n) p room may step turn timely =
 plain_onward capacity revives t u (Up c o) p room may step turn timely =
     subst (λ (v : Table). TableTimely capacity v p) (sym step.table) (held_timely capacity o _ t p (omega (arith, may.0.1)) (omega arith) timely)
 plain_onward capacity revives t u (Down c o) p room may step turn timely =
-    subst (λ (v : Table). TableTimely capacity v (note_loss o t.epoch p)) (sym step.table) (loss_timely capacity o _ t p timely)
+    subst (λ (v : Table). TableTimely capacity v (note_loss o t.clock.epoch p)) (sym step.table) (loss_timely capacity o _ t p timely)
 plain_onward capacity revives t u (Revive c o) p room may step turn timely =
     subst (λ (v : Table). TableTimely capacity v p) (sym step.table) (held_timely capacity o _ t p (omega (arith, may.0.1)) (omega arith) timely)
 plain_onward capacity revives t u (Fold c) p room may step turn timely =
@@ -139,5 +124,5 @@ plain_onward capacity revives t u (Judge c o dead) p room may step turn timely =
     subst (λ (v : Table). TableTimely capacity v (note_judgement c o p)) (sym step.table) (judge_timely capacity c o dead t p (omega (arith, may.0.1)) step.answer timely)
 plain_onward capacity revives t u (Close c) p room may step turn timely =
     subst (λ (v : Table). TableTimely capacity v (noted (Close c) (table_meaning t) p)) (sym step.table)
-    (subst (λ (b : Bool). TableTimely capacity (table_after (Close c) t) (cond b (note_epoch p) p)) (last_means c (clock_of t) (count_at t))
-    (close_timely capacity c (last_core_closes c t) t p turn timely))
+    (subst (λ (b : Bool). TableTimely capacity (table_after (Close c) t) (cond b (note_epoch p) p)) (last_means c t.clock (count_at t))
+    (close_timely capacity c (last_to_close c t.clock) t p turn timely))

@@ -5,7 +5,7 @@ use super::kind::Kind;
 
 /// How many epochs past the loss of its last holder an object can still be in use, with any counter that promises the bound, after any run of operations.
 pub fn bound_of<K: Kind, C: Counter<K>>() -> u32
-    ensures { PromptOverRuns C.Counter.meaning C.Counter.steps C.Counter.timely C.Counter.prompt K.Kind.capacity K.Kind.revives result }
+    ensures { PromptOverRuns C.Counter.meaning C.Counter.steps C.Counter.timely C.Counter.prompt K.Kind.CAPACITY K.Kind.REVIVES result }
 {
     5
 }

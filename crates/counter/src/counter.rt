@@ -24,7 +24,7 @@ pub trait Counter<K: Kind>: Sized {
 
     /// Puts a free object in use.
     fn give(&mut self, object: u16, holders: u32)
-        requires exists { (1 ≤ object) × (object ≤ K.Kind.capacity) }
+        requires exists { (1 ≤ object) × (object ≤ K.Kind.CAPACITY) }
         requires free { (meaning self.old).holders object ≡ None }
         requires some { (1 ≤ holders) × (holders ≤ 64) }
         ensures means { meaning self.new ≡ given object holders (meaning self.old) }
@@ -32,7 +32,7 @@ pub trait Counter<K: Kind>: Sized {
 
     /// One holder more of an object that is held.
     fn up(&mut self, core: u8, object: u16)
-        requires exists { (1 ≤ object) × (object ≤ K.Kind.capacity) }
+        requires exists { (1 ≤ object) × (object ≤ K.Kind.CAPACITY) }
         requires serves { core < (meaning self.old).cores }
         requires held { 1 ≤ how_many ((meaning self.old).holders object) }
         requires room { how_many ((meaning self.old).holders object) < 65536 }
@@ -41,7 +41,7 @@ pub trait Counter<K: Kind>: Sized {
 
     /// One holder fewer.
     fn down(&mut self, core: u8, object: u16)
-        requires exists { (1 ≤ object) × (object ≤ K.Kind.capacity) }
+        requires exists { (1 ≤ object) × (object ≤ K.Kind.CAPACITY) }
         requires serves { core < (meaning self.old).cores }
         requires held { 1 ≤ how_many ((meaning self.old).holders object) }
         ensures means { meaning self.new ≡ lowered object (meaning self.old) }
@@ -49,11 +49,11 @@ pub trait Counter<K: Kind>: Sized {
 
     /// One holder more of an object in use, also of one that nobody holds.
     fn revive(&mut self, core: u8, object: u16)
-        requires exists { (1 ≤ object) × (object ≤ K.Kind.capacity) }
+        requires exists { (1 ≤ object) × (object ≤ K.Kind.CAPACITY) }
         requires serves { core < (meaning self.old).cores }
         requires used { is_some ((meaning self.old).holders object) ≡ true }
         requires room { how_many ((meaning self.old).holders object) < 65536 }
-        requires allowed { K.Kind.revives ≡ true }
+        requires allowed { K.Kind.REVIVES ≡ true }
         ensures means { meaning self.new ≡ raised object (meaning self.old) }
         ensures exact { steps self.old (Revive core object) self.new };
 
@@ -65,7 +65,7 @@ pub trait Counter<K: Kind>: Sized {
 
     /// Whether the object is dead. A dead one is in use without holders, and is free from here on.
     fn judge(&mut self, core: u8, object: u16) -> bool
-        requires exists { (1 ≤ object) × (object ≤ K.Kind.capacity) }
+        requires exists { (1 ≤ object) × (object ≤ K.Kind.CAPACITY) }
         requires serves { core < (meaning self.old).cores }
         ensures means { Judged (meaning self.old) object result (meaning self.new) }
         ensures exact { steps self.old (Judge core object result) self.new };
@@ -78,9 +78,9 @@ pub trait Counter<K: Kind>: Sized {
         ensures means { meaning self.new ≡ closes core (meaning self.old) }
         ensures exact { steps self.old (Close core) self.new };
 
-    ghost means: { (s t : Self) (op : Operation) → Allowed K.Kind.capacity K.Kind.revives (meaning s) op → steps s op t → Does op (meaning s) (meaning t) };
+    ghost means: { (s t : Self) (op : Operation) → Allowed K.Kind.CAPACITY K.Kind.REVIVES (meaning s) op → steps s op t → Does op (meaning s) (meaning t) };
 
-    ghost onward: { (s t : Self) (op : Operation) (p : Timeline) → Allowed K.Kind.capacity K.Kind.revives (meaning s) op → steps s op t → InTurn K.Kind.capacity op p → timely s p → timely t (noted op (meaning s) p) };
+    ghost onward: { (s t : Self) (op : Operation) (p : Timeline) → Allowed K.Kind.CAPACITY K.Kind.REVIVES (meaning s) op → steps s op t → InTurn K.Kind.CAPACITY op p → timely s p → timely t (noted op (meaning s) p) };
 
-    ghost bound: { prompt → (s : Self) (p : Timeline) → timely s p → Prompt K.Kind.capacity (meaning s) p };
+    ghost bound: { prompt → (s : Self) (p : Timeline) → timely s p → Prompt K.Kind.CAPACITY (meaning s) p };
 }

@@ -1,25 +1,19 @@
-ghost use Rattle.std.specs.Prelude.{◌≡◌, ℕ, ◌≤◌, Bool, true, false};
-ghost use Rattle.std.proofs.Common.{rules};
+ghost use Rattle.std.specs.Prelude.{ℕ, ◌≤◌, Bool, true, false, refl};
+ghost use Rattle.std.proofs.lemmas.Bool.{leb-true};
 
 /// A kind of counted object. Its objects are numbered from 1.
 pub trait Kind {
-    // What the two constants are: a proof about any kind does not see a constant's value.
-    ghost capacity: { ℕ };
+    // The two constants, for clauses.
+    ghost CAPACITY: { ℕ };
 
-    ghost revives: { Bool };
+    ghost REVIVES: { Bool };
 
     /// The greatest number of objects.
     const CAPACITY: u16;
     /// Whether an object without holders may be revived.
     const REVIVES: bool;
 
-    fn capacity_of() -> u16
-        ensures { result ≡ capacity };
-
-    fn revives_of() -> bool
-        ensures { result ≡ revives };
-
-    ghost small: { (1 ≤ capacity) × (capacity ≤ 1024) };
+    ghost small: { (1 ≤ CAPACITY) × (CAPACITY ≤ 1024) };
 }
 
 /// The kind of the frames, which pages hold.
@@ -31,41 +25,25 @@ pub struct Frames;
 pub struct Nodes;
 
 impl Kind for Frames {
-    ghost capacity = { 1024 };
+    ghost CAPACITY = { 1024 };
 
-    ghost revives = { false };
+    ghost REVIVES = { false };
 
     const CAPACITY: u16 = 1024;
 
     const REVIVES: bool = false;
 
-    ghost small = { Prim.search rules };
-
-    fn capacity_of() -> u16 {
-        Self::CAPACITY
-    }
-
-    fn revives_of() -> bool {
-        Self::REVIVES
-    }
+    ghost small = { (leb-true 1 1024 refl, leb-true 1024 1024 refl) };
 }
 
 impl Kind for Nodes {
-    ghost capacity = { 64 };
+    ghost CAPACITY = { 64 };
 
-    ghost revives = { true };
+    ghost REVIVES = { true };
 
     const CAPACITY: u16 = 64;
 
     const REVIVES: bool = true;
 
-    ghost small = { Prim.search rules };
-
-    fn capacity_of() -> u16 {
-        Self::CAPACITY
-    }
-
-    fn revives_of() -> bool {
-        Self::REVIVES
-    }
+    ghost small = { (leb-true 1 64 refl, leb-true 64 1024 refl) };
 }

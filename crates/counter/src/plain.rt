@@ -1,6 +1,6 @@
 ghost use Rattle.std.specs.Prelude.{◌≡◌, ◌<◌, ◌≤◌};
 ghost use Rattle.counter.specs.Meaning.{how_many, begun};
-ghost use Rattle.counter.specs.Plain.{table_meaning, blank_table, count_at, TableSteps, TableTimely};
+ghost use Rattle.counter.specs.Plain.{table_meaning, blank_table, count_at, one_more, TableSteps, TableTimely};
 ghost use Rattle.counter.specs.PlainView.{table_of};
 ghost use Rattle.counter.specs.Timeline.{Timeline};
 ghost use Rattle.std.proofs.Common.{arith};
@@ -8,8 +8,8 @@ ghost use Rattle.counter.specs.PlainTime.{plain_means, plain_onward};
 
 use super::count::PlainCount;
 use super::counter::Counter;
+use super::epoch::Clock;
 use super::kind::Kind;
-use model::cores::CoreSet;
 use std::marker::PhantomData;
 
 impl<K> PlainCount<K> {
@@ -18,11 +18,16 @@ impl<K> PlainCount<K> {
         requires { object ≤ 1024 }
         ensures { result ≡ how_many (count_at (table_of self.now) object) }
     {
-        let entry = self.counts[object as usize];
-        match entry {
-            Some(holders) => holders,
-            None => 0,
-        }
+        self.counts[object as usize].unwrap_or(0)
+    }
+
+    /// One holder more.
+    fn raise(&mut self, object: u16)
+        requires known { object ≤ 1024 }
+        requires room { how_many (count_at (table_of self.old) object) < 65536 }
+        ensures { table_of self.new ≡ one_more object (table_of self.old) }
+    {
+        self.counts[object as usize] = Some(self.holders_of(object) + 1);
     }
 }
 
@@ -32,29 +37,26 @@ impl<K: Kind> Counter<K> for PlainCount<K> {
 
     ghost steps = { λ s op t. TableSteps (table_of s) op (table_of t) };
 
-    ghost timely = { λ s p. TableTimely K.Kind.capacity (table_of s) p };
+    ghost timely = { λ s p. TableTimely K.Kind.CAPACITY (table_of s) p };
 
     ghost prompt = { Unit {0} };
 
-    ghost means = { λ s t op may step. plain_means K.Kind.capacity K.Kind.revives (table_of s) (table_of t) op (omega (arith, s.full, K.Kind.small.1)) may step };
+    ghost means = { λ s t op may step. plain_means K.Kind.CAPACITY K.Kind.REVIVES (table_of s) (table_of t) op (omega (arith, s.full, K.Kind.small.1)) may step };
 
-    ghost onward = { λ s t op p may step turn timely. plain_onward K.Kind.capacity K.Kind.revives (table_of s) (table_of t) op p (omega (arith, s.full, K.Kind.small.1)) may step turn timely };
+    ghost onward = { λ s t op p may step turn timely. plain_onward K.Kind.CAPACITY K.Kind.REVIVES (table_of s) (table_of t) op p (omega (arith, s.full, K.Kind.small.1)) may step turn timely };
 
     ghost bound = { λ prompt s p timely o is z. omega (arith, (timely o is z).soon) };
 
     fn start(cores: u8, epoch: u32) -> PlainCount<K>
         requires few { cores ≤ 16 }
         ensures means { table_meaning (table_of result) ≡ begun cores epoch }
-        ensures timely { (p : Timeline) → TableTimely K.Kind.capacity (table_of result) p }
+        ensures timely { (p : Timeline) → TableTimely K.Kind.CAPACITY (table_of result) p }
         ensures exact { table_of result ≡ blank_table cores epoch }
     {
         PlainCount {
             kind: PhantomData,
             counts: [None; 1025],
-            cores,
-            epoch,
-            folded: CoreSet::empty(),
-            closed: CoreSet::empty(),
+            clock: Clock::start(cores, epoch),
         }
     }
 
@@ -63,22 +65,19 @@ impl<K: Kind> Counter<K> for PlainCount<K> {
     }
 
     fn up(&mut self, core: u8, object: u16) {
-        let holders = self.holders_of(object);
-        self.counts[object as usize] = Some(holders + 1);
+        self.raise(object);
     }
 
     fn down(&mut self, core: u8, object: u16) {
-        let holders = self.holders_of(object);
-        self.counts[object as usize] = Some(holders - 1);
+        self.counts[object as usize] = Some(self.holders_of(object) - 1);
     }
 
     fn revive(&mut self, core: u8, object: u16) {
-        let left = self.holders_of(object);
-        self.counts[object as usize] = Some(left + 1);
+        self.raise(object);
     }
 
     fn fold(&mut self, core: u8) {
-        self.folded = self.folded.with(core);
+        self.clock.fold(core);
     }
 
     fn judge(&mut self, core: u8, object: u16) -> bool {
@@ -93,11 +92,6 @@ impl<K: Kind> Counter<K> for PlainCount<K> {
     }
 
     fn close(&mut self, core: u8) {
-        self.closed = self.closed.with(core);
-        if self.closed.holds_all(self.cores) {
-            self.epoch += 1;
-            self.folded = CoreSet::empty();
-            self.closed = CoreSet::empty();
-        }
+        self.clock.close(core);
     }
 }

@@ -6,7 +6,7 @@ use super::kind::{Frames, Kind, Nodes};
 
 /// The life of one object under any counter: whether it is dead in the epoch of its last holder.
 fn dead_at_once<K: Kind, C: Counter<K> + Drop>(object: u16) -> bool
-    requires { (1 ≤ object) × (object ≤ K.Kind.capacity) }
+    requires { (1 ≤ object) × (object ≤ K.Kind.CAPACITY) }
 {
     let mut counter = C::start(1, 7);
     counter.give(object, 1);

@@ -15,7 +15,7 @@ use Rattle.ledger.specs.declared.record.Record.{Record}
 use Rattle.ledger.specs.Slots.{place, by_of}
 use Rattle.ledger.specs.Records.{blank, given_to, spared, after_fold, verdict, after_judge}
 use Rattle.ledger.specs.States.{State, record_at, slot_at, total, put_record, reported, fold_slot, fold_first, slot_of, make_room, moved, shift, spare_at, judge_at, started, fold_all}
-use Rattle.ledger.proofs.Sums.{get_d_replicate}
+use Rattle.counter.proofs.Lists.{get_d_replicate}
 use Rattle.ledger.proofs.Folding.{place_fits, fold_cases, reported_total, object_known, object_named, first_keeps}
 use Rattle.ledger.proofs.Rooms.{Room, room_cases, room_made}
 use Rattle.delta.specs.Safety.{used, pending, holders_in, delta_meaning, Sound}

@@ -14,7 +14,7 @@ use Rattle.ledger.specs.declared.slot.Move.TheVariants.{Gain, Loss}
 use Rattle.ledger.specs.declared.record.Record.{Record}
 use Rattle.ledger.specs.Records.{blank, given_to, spared}
 use Rattle.ledger.specs.States.{State, StateSteps, record_at, put_record, put_clock, make_room, shift, spare_at, judge_at, started, state_after}
-use Rattle.ledger.proofs.Sums.{get_d_replicate}
+use Rattle.counter.proofs.Lists.{get_d_replicate}
 use Rattle.delta.specs.Safety.{used, holders_in, delta_meaning, Sound}
 use Rattle.delta.specs.Promptness.{Seen, Due, Punctual, OnTime}
 use Rattle.delta.specs.Safe.{all_folded}

@@ -14,7 +14,8 @@ use Rattle.ledger.specs.declared.record.Record.{Record}
 use Rattle.ledger.specs.Slots.{place, object_in, change_in, by_of, part, sum_of}
 use Rattle.ledger.specs.Records.{blank, given_to, spared, after_fold, is_zero, is_due, on_list_of, firm, verdict, after_judge, enlisted, unlisted}
 use Rattle.ledger.specs.States.{State, Ready, record_at, slot_at, total, put_record, put_slot, put_clock, reported, fold_slot, fold_first, slot_of, make_room, moved, started, fold_all}
-use Rattle.ledger.proofs.Sums.{sum_set, sum_replicate, each_set, each_replicate, get_d_replicate, part_same, part_other, part_none, sum_none}
+use Rattle.counter.proofs.Lists.{get_d_replicate}
+use Rattle.ledger.proofs.Sums.{sum_set, sum_replicate, each_set, each_replicate, part_same, part_other, part_none, sum_none}
 use Rattle.ledger.proofs.Folding.{place_fits, fold_cases, reported_total, reported_ready, object_known, fold_empties, first_keeps, first_clock, first_ready}
 use Rattle.ledger.proofs.Rooms.{Room, room_cases}
 use Rattle.delta.specs.Safety.{used, pending, folded_since, Has, Quiet, Sound}

@@ -22,20 +22,20 @@ impl<K: Kind> Counter<K> for DeltaCache<K> {
 
     ghost steps = { λ s op t. StateSteps (tables s) op (tables t) };
 
-    ghost timely = { λ s p. OnTime K.Kind.capacity (tables s) p };
+    ghost timely = { λ s p. OnTime K.Kind.CAPACITY (tables s) p };
 
     ghost prompt = { Unit {0} };
 
-    ghost means = { λ s t op may step. keeps_meaning K.Kind.capacity K.Kind.revives (tables s) (tables t) op K.Kind.small.1 may step (open_sound (tables s) s.sound) };
+    ghost means = { λ s t op may step. keeps_meaning K.Kind.CAPACITY K.Kind.REVIVES (tables s) (tables t) op K.Kind.small.1 may step (open_sound (tables s) s.sound) };
 
-    ghost onward = { λ s t op p may step turn timely. keeps_time K.Kind.capacity K.Kind.revives (tables s) (tables t) op p K.Kind.small.1 may step (open_sound (tables s) s.sound) turn timely };
+    ghost onward = { λ s t op p may step turn timely. keeps_time K.Kind.CAPACITY K.Kind.REVIVES (tables s) (tables t) op p K.Kind.small.1 may step (open_sound (tables s) s.sound) turn timely };
 
-    ghost bound = { λ prompt s p timely o is z. Onward.bound K.Kind.capacity (tables s) p timely o is z };
+    ghost bound = { λ prompt s p timely o is z. Onward.bound K.Kind.CAPACITY (tables s) p timely o is z };
 
     fn start(cores: u8, epoch: u32) -> DeltaCache<K>
         requires few { cores ≤ 16 }
         ensures means { delta_meaning (tables result) ≡ begun cores epoch }
-        ensures timely { (p : Timeline) → OnTime K.Kind.capacity (tables result) p }
+        ensures timely { (p : Timeline) → OnTime K.Kind.CAPACITY (tables result) p }
         ensures exact { tables result ≡ started cores epoch }
     {
         DeltaCache {

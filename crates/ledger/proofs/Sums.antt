@@ -2,6 +2,7 @@
 use Rattle.std.proofs.Common.{◌≡◌, ℕ, zero, suc, ◌*◌, ◌<◌, ◌≤◌, eqb, List, [], ◌∷◌, length, get_or, set, replicate, ℤ, pos, ◌+ℤ◌, nat_abs, None, Option, sym, refl, subst, arith}
 use borrow.Author.Differences.{ints}
 use Rattle.std.proofs.lemmas.Bool.{eq-eqb, ne_eqb, cond-true, cond-false, cond_both}
+use Rattle.counter.proofs.Lists.{get_d_replicate}
 use Rattle.ledger.specs.declared.slot.Delta.{Delta}
 use Rattle.ledger.specs.Slots.{sum_of, part, object_in, change_in}
 
@@ -26,11 +27,6 @@ each_set P (x ∷ xs) zero y d all here zero = here
 each_set P (x ∷ xs) zero y d all here (suc k) = all (suc k)
 each_set P (x ∷ xs) (suc i) y d all here zero = all 0
 each_set P (x ∷ xs) (suc i) y d all here (suc k) = each_set (λ j. P (suc j)) xs i y d (λ j. all (suc j)) here k
-
-pub get_d_replicate : {X : Type 0} (n : ℕ) (x : X) (k : ℕ) → get_or (replicate n x) k x ≡ x
-get_d_replicate zero x k = refl
-get_d_replicate (suc n) x zero = refl
-get_d_replicate (suc n) x (suc k) = get_d_replicate n x k
 
 pub each_replicate : {X : Type 0} (P : ℕ → X → Type 0) (n : ℕ) (x : X) → ((k : ℕ) → P k x) → (k : ℕ) → P k (get_or (replicate n x) k x)
 each_replicate P n x h k = subst (P k) (sym (get_d_replicate n x k)) (h k)

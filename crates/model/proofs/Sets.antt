@@ -1,6 +1,8 @@
 -- Laws of sets of cores, at any width.
-use Rattle.std.proofs.Common.{◌≡◌, ℕ, zero, suc, ◌+◌, ◌-◌, ◌/◌, ◌%◌, ◌^◌, ◌<◌, ◌≤◌, Bool, true, false, not, ◌&&◌, ◌||◌, eqb, ◌≢◌, sym, refl, ap, ◌∙◌, subst, ⊎_elim, lt_of_lt_of_le, mod-lt, mul_comm, one-mul, pow-suc, div-one, add-one, arith, pow_pos, pow_mono, pow-add, shr-shr, shr_lt}
+use Rattle.std.proofs.Common.{MatchBool, length, zero-add, ◌≡◌, ℕ, zero, suc, ◌+◌, ◌-◌, ◌/◌, ◌%◌, ◌^◌, ◌<◌, ◌≤◌, Bool, true, false, not, ◌&&◌, ◌||◌, eqb, ◌≢◌, sym, refl, ap, ◌∙◌, subst, ⊎_elim, lt_of_lt_of_le, mod-lt, mul_comm, one-mul, pow-suc, div-one, add-one, arith, pow_pos, pow_mono, pow-add, shr-shr, shr_lt}
 use native.Mathlib.Nat.{div-eq_of_lt}
+use Rattle.std.specs.List.{AllWithin, HoldsAt, range_with_len}
+use Rattle.std.proofs.lemmas.List.FromFn.{length-range_with_len, get_or-range_with_len}
 use lib.Bits.{bit_or, bit_xor, or_shr, or_mod, xor_shr, xor_mod}
 use lib.Pow.{pow-lt, shl-shr}
 use Rattle.std.proofs.lemmas.Bool.{eq-eqb, ne_eqb, cases_eq, cases_order, cases_Bool, and_from, and_left, and_right, both_ways}
@@ -152,3 +154,13 @@ pub each_all : (n : ℕ) (f : ℕ → Bool) → Each n f → all_below n f ≡ t
 unfolding all_below
 each_all zero f each = refl
 each_all (suc n) f each = and_from (all_below n f) (f n) (each_all n f (λ c lt. each c (omega arith))) (each n (omega arith))
+
+-- what a look through the numbers below n finds is what all_below says
+pub all_found : (r : Bool) (n : ℕ) (f : ℕ → Bool)
+    → MatchBool r (AllWithin (λ k. f k ≡ true) (range_with_len 0 n) 0 (length (range_with_len 0 n))) ((k : ℕ) × (k < length (range_with_len 0 n)) × HoldsAt (λ k. f k ≡ false) (range_with_len 0 n) k)
+    → r ≡ all_below n f
+all_found true n f all =
+    sym (each_all n f (λ c lt. subst (λ (k : ℕ). f k ≡ true) (get_or-range_with_len 0 n c 0 lt ∙ zero-add c) (all c 0 (omega arith) (omega (arith, lt, length-range_with_len 0 n)))))
+all_found false n f one =
+    let lt : one.0 < n = omega (arith, one.1, length-range_with_len 0 n) in
+    sym (all_not one.0 n f lt (subst (λ (k : ℕ). f k ≡ false) (get_or-range_with_len 0 n one.0 0 lt ∙ zero-add one.0) (one.2 0)))

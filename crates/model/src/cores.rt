@@ -75,12 +75,7 @@ impl CoreSet {
         ensures each { result ≡ true → Each cores (member self.bits) }
         ensures only { Each cores (member self.bits) → result ≡ true }
     {
-        for core in 0..cores {
-            if !self.contains(core) {
-                return false;
-            }
-        }
-        true
+        (0..cores).all(|core| self.contains(core))
     }
 
     /// How many cores are in the set.

@@ -2,10 +2,11 @@
 use Rattle.std.proofs.Common.{◌≡◌, ℕ, ◌+◌, ◌<◌, ◌≤◌, Bool, true, false, cond, not, ◌&&◌, ltb, leb, Some, None, Ok, Err, Option, Result, sym, refl, ap, ◌∙◌, arith}
 use Rattle.std.proofs.lemmas.Bool.{ltb-true, ltb-false, leb-true, and_parts}
 use Rattle.model.specs.declared.fault.Reason.{Reason}
-use Rattle.model.specs.declared.fault.Reason.TheVariants.{CoreNotInService, BadRange, NoLabel, Mapped, Closing}
+use Rattle.model.specs.declared.fault.Reason.TheVariants.{CoreNotInService, BadRange, NoLabel, Mapped, Closing, BadSetUp}
 use Rattle.model.specs.declared.fault.TreeFault.{TreeFault}
 use Rattle.model.specs.Pages.{closing_by, mapped_state}
-use Rattle.model.specs.Flat.{lowest}
+use Rattle.model.specs.declared.fault.SpaceFault.{SpaceFault}
+use Rattle.model.specs.Flat.{Flat, lowest}
 use Rattle.model.proofs.Lowest.{lowest_none}
 use Rattle.tree.specs.declared.slot.Slot.{Slot}
 use Rattle.tree.specs.declared.slot.Slot.TheVariants.{Vacant, Child, Value}
@@ -15,7 +16,7 @@ use Rattle.tree.specs.Soundness.{Sound, left}
 use Rattle.tree.specs.Need.{need}
 use Rattle.tree.specs.Room.{room_for}
 use Rattle.tree.proofs.Showing.{shown_plain}
-use Rattle.space.specs.Checks.{Check, and_then, unless, unless_found, of_tree, good_range, good_set_up, numbers_check, vacant_check, map_check, look_check}
+use Rattle.space.specs.Checks.{Check, and_then, unless, unless_found, of_tree, good_range, good_set_up, numbers_check, vacant_check, map_check, look_check, set_up_check}
 
 both : (a b : Check) → and_then a b ≡ Ok tt → (a ≡ Ok tt) × (b ≡ Ok tt)
 both (Ok x) b e = (refl, e)
@@ -93,3 +94,15 @@ set_up_parts cores frames nodes e =
 -- a page that a look may name
 pub page_good : (page : ℕ) → look_check page ≡ Ok tt → page < 262144
 page_good page e = ltb-true page 262144 (fine (ltb page 262144) BadRange e)
+
+-- a set up that passes its check is good
+pub passed : (cores frames nodes : ℕ) → set_up_check cores frames nodes ≡ Ok tt → good_set_up cores frames nodes ≡ true
+passed cores frames nodes e = fine (good_set_up cores frames nodes) BadSetUp e
+
+-- what the checks of a map's pages say, from what each of the two says
+module _ (first count : ℕ) (pages : Flat) (a : Check) (closing : a ≡ unless_found (lowest (λ q. closing_by (pages q)) first count) Closing) where
+  pub vacant_passed : (b : Check) → a ≡ Ok tt → b ≡ unless_found (lowest (λ q. mapped_state (pages q)) first count) Mapped → b ≡ vacant_check first count pages
+  vacant_passed b fine mapped = mapped ∙ sym (ap (λ (x : Check). and_then x (unless_found (lowest (λ q. mapped_state (pages q)) first count) Mapped)) (sym closing ∙ fine))
+
+  pub vacant_refused : (e : SpaceFault) → a ≡ Err e → Err e ≡ vacant_check first count pages
+  vacant_refused e bad = sym (ap (λ (x : Check). and_then x (unless_found (lowest (λ q. mapped_state (pages q)) first count) Mapped)) (sym closing ∙ bad))

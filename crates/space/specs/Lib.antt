@@ -1,4 +1,5 @@
 pub mod States
+pub mod View
 pub mod Linking
 pub mod Checks
 pub mod Calls

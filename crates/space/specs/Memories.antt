@@ -1,13 +1,10 @@
 -- The memory as its users see it.
-use Rattle.std.specs.Prelude.{ℕ, ◌-◌, Result}
+use Rattle.std.specs.Prelude.{ℕ, Result}
 use Rattle.model.specs.declared.fault.SpaceFault.{SpaceFault}
 use Rattle.counter.specs.Meaning.{Meaning}
-use Rattle.counter.specs.Plain.{TableSteps}
-use Rattle.counter.specs.PlainView.{table_of}
-use Rattle.tree.specs.declared.pool.Pool.{Pool}
-use Rattle.tree.specs.Pools.{unused}
 use Rattle.space.specs.declared.memory.Memory.{Memory}
-use Rattle.space.specs.States.{State, state}
+use Rattle.space.specs.States.{State}
+use Rattle.space.specs.View.{state}
 use Rattle.space.specs.Instance.{plain_meaning}
 use Rattle.space.specs.Laws.{SetUp, Maps, Accepted}
 
@@ -19,10 +16,6 @@ memory_state m = state m.space
 abbrev pub memory_nodes : Memory → Meaning
 memory_nodes m = plain_meaning m.space.nodes
 
--- how many objects of a pool are out
-abbrev pub in_use : {n : ℕ} → Pool n → ℕ
-in_use p = p.size - unused p
-
 -- what an accepted set up does; a refused one leaves the memory as it was
 abbrev pub WasSetUp : Result ℕ SpaceFault → ℕ → ℕ → Memory → Memory → Type 0
 WasSetUp r cores epoch old new = Accepted r (SetUp cores epoch (memory_nodes new) (memory_state new)) old.space new.space
@@ -30,4 +23,4 @@ WasSetUp r cores epoch old new = Accepted r (SetUp cores epoch (memory_nodes new
 -- what an accepted map does; a refused one leaves the memory as it was
 abbrev pub Mapped : Result ℕ SpaceFault → ℕ → ℕ → ℕ → ℕ → Memory → Memory → Type 0
 Mapped r core label first count old new =
-    Accepted r (Maps plain_meaning (λ s op t. TableSteps (table_of s) op (table_of t)) core label first count old.space new.space) old.space new.space
+    Accepted r (Maps core label first count old.space new.space) old.space new.space

@@ -6,7 +6,6 @@ use Rattle.tree.specs.declared.table.Tree.{Tree}
 use Rattle.tree.specs.Pools.{full}
 use Rattle.tree.specs.Nodes.{shows}
 use Rattle.tree.specs.Changes.{planted}
-use Rattle.space.specs.declared.space.Space.{Space}
 
 -- cores, epoch, the pool of frames and the tree
 pub record State : Type 0 where
@@ -15,10 +14,6 @@ pub record State : Type 0 where
   pub epoch : ℕ
   pub frames : Pool 1024
   pub tree : Tree
-
--- the state of a space over any counter
-abbrev pub state : {N : Type 0} → Space N → State
-state s = record { cores = s.cores; epoch = s.epoch; frames = s.frames; tree = s.tree }
 
 -- the flat page map
 abbrev pub flat : State → Flat

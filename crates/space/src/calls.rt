@@ -1,6 +1,7 @@
 ghost use Rattle.std.specs.Prelude.{◌≡◌};
 ghost use Rattle.space.specs.Calls.{set_up_answer, set_up_after, map_answer, map_after, look_answer_of};
-ghost use Rattle.space.specs.Memories.{memory_state, in_use, WasSetUp, Mapped};
+ghost use Rattle.space.specs.Memories.{memory_state, WasSetUp, Mapped};
+ghost use Rattle.tree.specs.Pools.{in_use};
 ghost use Rattle.space.specs.States.{before_set_up};
 
 use super::memory::Memory;
@@ -65,13 +66,13 @@ impl Memory {
     pub fn frames_in_use(&self) -> usize
         ensures { result ≡ in_use (memory_state self.now).frames }
     {
-        self.space.frames.size - self.space.frames.free()
+        self.space.frames.in_use()
     }
 
     /// How many nodes are out of their pool, the root among them.
     pub fn nodes_in_use(&self) -> usize
         ensures { result ≡ in_use (memory_state self.now).tree.pool }
     {
-        self.space.tree.pool.size - self.space.tree.free_nodes()
+        self.space.tree.nodes_in_use()
     }
 }

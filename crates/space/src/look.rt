@@ -1,7 +1,6 @@
 ghost use Rattle.std.specs.Prelude.{◌≡◌};
 ghost use Rattle.space.specs.Calls.{look_answer_of};
-ghost use Rattle.space.specs.Linking.{Sound};
-ghost use Rattle.space.specs.States.{state};
+ghost use Rattle.space.specs.View.{state};
 
 use super::check::check_page;
 use super::space::Space;
@@ -13,10 +12,9 @@ use model::page::Page;
 impl<N: Counter<Nodes> + Drop> Space<N> {
     /// What is told of a page: label + 256 × frame + 16,777,216 × (owner + 1).
     pub fn look(&self, page: Page) -> Result<u32, SpaceFault>
-        requires sound { Sound N.Counter.meaning self.now }
         ensures { result ≡ look_answer_of page (state self.now) }
     {
         check_page(page)?;
-        Ok(self.tree.look(page).answer())
+        Ok(self.tree.look(page).map_or(0, |mapping| mapping.answer()))
     }
 }

@@ -1,16 +1,13 @@
 ghost use Rattle.std.specs.Prelude.{◌≡◌, ◌+◌, ◌<◌, ◌≤◌};
 ghost use Rattle.space.specs.Calls.{map_answer, map_after};
 ghost use Rattle.space.specs.Laws.{Maps, Accepted};
-ghost use Rattle.space.specs.Linking.{Sound};
-ghost use Rattle.space.specs.States.{state};
+ghost use Rattle.space.specs.View.{state};
 
-use super::check::check_map;
 use super::space::Space;
 use counter::counter::Counter;
 use counter::kind::Nodes;
 use model::fault::SpaceFault;
 use model::page::{Core, Label, Mapping, Page};
-use tree::pages::Pages;
 
 impl<N: Counter<Nodes> + Drop> Space<N> {
     /// Maps the pages of a range with a label, no frame and an empty core set.
@@ -21,19 +18,13 @@ impl<N: Counter<Nodes> + Drop> Space<N> {
         first: Page,
         count: u32,
     ) -> Result<u32, SpaceFault>
-        requires sound { Sound N.Counter.meaning self.old }
         ensures answer { result ≡ map_answer core label first count (state self.old) }
         ensures state { state self.new ≡ map_after core label first count (state self.old) }
-        ensures accepted { Accepted result (Maps N.Counter.meaning N.Counter.steps core label first count self.old self.new) self.old self.new }
-        ensures sound { Sound N.Counter.meaning self.new }
+        ensures accepted { Accepted result (Maps core label first count self.old self.new) self.old self.new }
     {
-        check_map(self.cores, &self.tree, core, label, first, count)?;
-        self.tree.fill(
-            &mut self.nodes,
-            core,
-            Pages::new(first, first + count),
-            Mapping::fresh(label),
-        );
+        let pages = self.check_map(core, label, first, count)?;
+        self.tree
+            .fill(&mut self.nodes, core, pages, Mapping::fresh(label));
         Ok(0)
     }
 }

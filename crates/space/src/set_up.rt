@@ -3,14 +3,14 @@ ghost use Rattle.counter.specs.Meaning.{begun, given};
 ghost use Rattle.space.specs.Checks.{set_up_check};
 ghost use Rattle.space.specs.Calls.{set_up_answer, set_up_after};
 ghost use Rattle.space.specs.Laws.{SetUp, Accepted};
-ghost use Rattle.space.specs.Linking.{Sound};
-ghost use Rattle.space.specs.States.{state, before_set_up};
+ghost use Rattle.space.specs.States.{set_up_state, before_set_up};
+ghost use Rattle.space.specs.View.{state};
 
-use super::check::{good_set_up, refused};
+use super::check::check_set_up;
 use super::space::Space;
 use counter::counter::Counter;
 use counter::kind::Nodes;
-use model::fault::{Reason, SpaceFault};
+use model::fault::SpaceFault;
 use model::page::Epoch;
 use tree::pool::Pool;
 use tree::table::Tree;
@@ -26,18 +26,28 @@ fn rooted<N: Counter<Nodes>>(cores: u8, epoch: Epoch) -> N
 }
 
 impl<N: Counter<Nodes> + Drop> Space<N> {
-    /// A space before set up: no cores, epoch 0, all pages vacant.
-    pub fn new() -> Space<N>
-        ensures state { state result ≡ before_set_up }
-        ensures sound { Sound N.Counter.meaning result }
+    // A space with all pages vacant, and pools that are full but for the root.
+    fn begun(cores: u8, frames: u32, nodes: u32, epoch: Epoch) -> Space<N>
+        requires cores { cores ≤ 16 }
+        requires frames { frames ≤ 1024 }
+        requires nodes { (0 < nodes) × (nodes ≤ 64) }
+        ensures state { state result ≡ set_up_state cores frames nodes epoch }
+        ensures nodes { N.Counter.meaning result.nodes ≡ given 1 1 (begun cores epoch) }
     {
         Space {
-            cores: 0,
-            epoch: 0,
-            frames: Pool::full(0),
-            tree: Tree::new(1),
-            nodes: rooted(0, 0),
+            cores,
+            epoch,
+            frames: Pool::full(frames as usize),
+            tree: Tree::new(nodes as usize),
+            nodes: rooted(cores, epoch),
         }
+    }
+
+    /// A space before set up: no cores, epoch 0, all pages vacant.
+    pub fn new() -> Space<N>
+        ensures { state result ≡ before_set_up }
+    {
+        Space::begun(0, 0, 1, 0)
     }
 
     /// Begins anew with 1 to 16 cores, 1 to 1,024 frames, 1 to 64 nodes and a starting epoch.
@@ -48,20 +58,12 @@ impl<N: Counter<Nodes> + Drop> Space<N> {
         nodes: u32,
         epoch: Epoch,
     ) -> Result<u32, SpaceFault>
-        requires sound { Sound N.Counter.meaning self.old }
         ensures answer { result ≡ set_up_answer cores frames nodes }
         ensures state { state self.new ≡ set_up_after cores frames nodes epoch (state self.old) }
         ensures accepted { Accepted result (SetUp cores epoch (N.Counter.meaning self.new.nodes) (state self.new)) self.old self.new }
-        ensures sound { Sound N.Counter.meaning self.new }
     {
-        if !good_set_up(cores, frames, nodes) {
-            return Err(refused(Reason::BadSetUp));
-        }
-        self.cores = cores;
-        self.epoch = epoch;
-        self.frames = Pool::full(frames as usize);
-        self.tree = Tree::new(nodes as usize);
-        self.nodes = rooted(cores, epoch);
+        check_set_up(cores, frames, nodes)?;
+        *self = Space::begun(cores, frames, nodes, epoch);
         Ok(0)
     }
 }

@@ -3,5 +3,5 @@ use Rattle.counter.proofs.bound.bound_of.Goals as goal
 
 pub returns : goal.returns
 returns g c =
-    prompt_over_runs g.C.Counter.meaning g.C.Counter.steps g.C.Counter.timely g.C.Counter.prompt g.K.Kind.capacity g.K.Kind.revives
+    prompt_over_runs g.C.Counter.meaning g.C.Counter.steps g.C.Counter.timely g.C.Counter.prompt g.K.Kind.CAPACITY g.K.Kind.REVIVES
     g.met.C.Counter.onward g.met.C.Counter.bound

@@ -1,11 +1,23 @@
-use Rattle.std.proofs.Common.{ℕ, replicate, None, ap, ◌∙◌, ap₂}
-use Rattle.counter.specs.Plain.{Table, table_meaning}
-use Rattle.counter.proofs.Tables.{start_means, all_free}
+use Rattle.std.proofs.Common.{◌≡◌, ℕ, None, Option, ap, ◌∙◌}
+use Rattle.std.proofs.Math.Path.{fun_ext}
+use Rattle.counter.specs.Meaning.{with_holders, begun}
 use Rattle.counter.specs.Meanings.{none_not}
+use Rattle.counter.specs.ClocksLemmas.{started_means}
+use Rattle.counter.specs.Plain.{count_at, table_meaning, blank_table}
+use Rattle.counter.proofs.Lists.{get_d_replicate}
 use Rattle.counter.proofs.plain.PlainCountCounter.start.Goals as goal
 
-pub returns : goal.returns
-returns g c =
-    let with_marks : ℕ → ℕ → Table = λ f d. record { counts = replicate 1025 None; cores = c.args.cores; epoch = c.args.epoch; folded = f; closed = d } in
-    let is = ap₂ with_marks c.empty.ensures.bits c.empty-2.ensures.bits in
-    record { means = ap table_meaning is ∙ start_means 1025 c.args.cores c.args.epoch; timely = λ p o in_kind z. absurd (none_not _ 0 (all_free 1025 o) z); exact = is }
+-- no object of a blank table is in use
+blank_free : (cores epoch o : ℕ) → count_at (blank_table cores epoch) o ≡ None
+blank_free cores epoch o = get_d_replicate 1025 None o
+
+blank_means : (cores epoch : ℕ) → table_meaning (blank_table cores epoch) ≡ begun cores epoch
+blank_means cores epoch =
+    started_means cores epoch (count_at (blank_table cores epoch))
+    ∙ ap (λ (f : ℕ → Option ℕ). with_holders f (begun cores epoch)) (fun_ext (blank_free cores epoch))
+
+pub returns-clause-means : goal.returns-clause-means
+returns-clause-means g c = rw c.start.ensures (blank_means c.args.cores c.args.epoch)
+
+pub returns-clause-timely : goal.returns-clause-timely
+returns-clause-timely g c p o is z = absurd (none_not _ 0 (blank_free c.args.cores c.args.epoch o) z)

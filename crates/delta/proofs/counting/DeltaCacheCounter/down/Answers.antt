@@ -9,12 +9,12 @@ use Rattle.delta.proofs.counting.DeltaCacheCounter.down.Goals as goal
 pub down-requires : goal.down-requires
 down-requires g c =
     let sound = open_sound (tables c.args.self.now) c.args.self.now.sound in
-    record { core = omega (arith, sound.ready.cores, c.requires.serves); object = (c.requires.exists.0, omega (arith, c.requires.exists.1, g.met.K.Kind.small.1)); ready = sound.ready }
+    record { core = omega (arith, sound.ready.cores, c.requires.serves); object = (c.requires.exists.0, omega (arith, c.requires.exists.1, g.K.Kind.small.1)); ready = sound.ready }
 
 pub invariant_of-self : goal.invariant_of-self
 invariant_of-self g c =
     let st = tables c.args.self.now in
-    let sound = keeps_sound g.K.Kind.capacity g.K.Kind.revives st (state c.down.new.self) (Down c.args.core c.args.object) g.met.K.Kind.small.1
+    let sound = keeps_sound g.K.Kind.CAPACITY g.K.Kind.REVIVES st (state c.down.new.self) (Down c.args.core c.args.object) g.K.Kind.small.1
     (c.requires.exists, c.requires.serves, c.requires.held) c.down.ensures (open_sound st c.args.self.now.sound) in
     record { sound = ∣ sound ∣₁ }
 
@@ -22,7 +22,7 @@ pub returns : goal.returns
 returns g c =
     let st = tables c.args.self.now in
     record {
-      means = keeps_meaning g.K.Kind.capacity g.K.Kind.revives st (state c.down.new.self) (Down c.args.core c.args.object) g.met.K.Kind.small.1
+      means = keeps_meaning g.K.Kind.CAPACITY g.K.Kind.REVIVES st (state c.down.new.self) (Down c.args.core c.args.object) g.K.Kind.small.1
           (c.requires.exists, c.requires.serves, c.requires.held) c.down.ensures (open_sound st c.args.self.now.sound);
       exact = c.down.ensures;
     }

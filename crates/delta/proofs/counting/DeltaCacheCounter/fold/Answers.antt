@@ -14,7 +14,7 @@ fold-requires g c =
 pub invariant_of-self : goal.invariant_of-self
 invariant_of-self g c =
     let st = tables c.args.self.now in
-    let sound = keeps_sound g.K.Kind.capacity g.K.Kind.revives st (state c.fold.new.self) (Fold c.args.core) g.met.K.Kind.small.1
+    let sound = keeps_sound g.K.Kind.CAPACITY g.K.Kind.REVIVES st (state c.fold.new.self) (Fold c.args.core) g.K.Kind.small.1
     c.requires.serves c.fold.ensures (open_sound st c.args.self.now.sound) in
     record { sound = ∣ sound ∣₁ }
 
@@ -22,7 +22,7 @@ pub returns : goal.returns
 returns g c =
     let st = tables c.args.self.now in
     record {
-      means = keeps_meaning g.K.Kind.capacity g.K.Kind.revives st (state c.fold.new.self) (Fold c.args.core) g.met.K.Kind.small.1
+      means = keeps_meaning g.K.Kind.CAPACITY g.K.Kind.REVIVES st (state c.fold.new.self) (Fold c.args.core) g.K.Kind.small.1
           c.requires.serves c.fold.ensures (open_sound st c.args.self.now.sound);
       exact = c.fold.ensures;
     }

@@ -8,12 +8,12 @@ use Rattle.delta.proofs.counting.DeltaCacheCounter.judge.Goals as goal
 
 pub judge-requires : goal.judge-requires
 judge-requires g c =
-    omega (arith, c.requires.exists.1, g.met.K.Kind.small.1)
+    omega (arith, c.requires.exists.1, g.K.Kind.small.1)
 
 pub invariant_of-self : goal.invariant_of-self
 invariant_of-self g c =
     let st = tables c.args.self.now in
-    let sound = keeps_sound g.K.Kind.capacity g.K.Kind.revives st (state c.judge.new.self) (Judge c.args.core c.args.object c.judge.result) g.met.K.Kind.small.1
+    let sound = keeps_sound g.K.Kind.CAPACITY g.K.Kind.REVIVES st (state c.judge.new.self) (Judge c.args.core c.args.object c.judge.result) g.K.Kind.small.1
     (c.requires.exists, c.requires.serves) c.judge.ensures (open_sound st c.args.self.now.sound) in
     record { sound = ∣ sound ∣₁ }
 
@@ -21,7 +21,7 @@ pub returns : goal.returns
 returns g c =
     let st = tables c.args.self.now in
     record {
-      means = keeps_meaning g.K.Kind.capacity g.K.Kind.revives st (state c.judge.new.self) (Judge c.args.core c.args.object c.judge.result) g.met.K.Kind.small.1
+      means = keeps_meaning g.K.Kind.CAPACITY g.K.Kind.REVIVES st (state c.judge.new.self) (Judge c.args.core c.args.object c.judge.result) g.K.Kind.small.1
           (c.requires.exists, c.requires.serves) c.judge.ensures (open_sound st c.args.self.now.sound);
       exact = c.judge.ensures;
     }

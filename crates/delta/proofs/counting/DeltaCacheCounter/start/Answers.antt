@@ -14,7 +14,7 @@ invariant_of-result g c =
 
 pub returns : goal.returns
 returns g c =
-    let capacity = g.K.Kind.capacity in
+    let capacity = g.K.Kind.CAPACITY in
     record {
       means = ap delta_meaning c.new.ensures ∙ started_is c.args.cores c.args.epoch;
       timely = λ p. subst (λ (st : State). OnTime capacity st p) (sym c.new.ensures) (started_time capacity c.args.cores c.args.epoch p);
