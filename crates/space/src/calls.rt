@@ -73,6 +73,6 @@ impl Memory {
     pub fn nodes_in_use(&self) -> usize
         ensures { result ≡ in_use (memory_state self.now).tree.pool }
     {
-        self.space.tree.pool.in_use()
+        self.space.tree.nodes_in_use()
     }
 }

@@ -13,7 +13,7 @@ use Rattle.tree.proofs.Places.{put_same, put_other}
 use Rattle.tree.proofs.Blocks.{grow_shows}
 use Rattle.tree.proofs.Keeping.{grow_linked, child_kept, pool_kept, pool_gives}
 
-pub hangs : (old : Tree) (n s : ℕ) → Sound old → 0 < left old →
+hangs : (old : Tree) (n s : ℕ) → Sound old → 0 < left old →
     n < 65 → s < 64 → 0 < (link_at old.links n).level → (link_at old.links n).level < 3 → slot_at old.slots n s ≡ Vacant →
     Hung n s (next_object old.pool) old (grown n s old)
 hangs old n s ok some hn hs live above was =
@@ -44,6 +44,13 @@ pub grown_is : (t : Tree) (n s k : ℕ) (p : Pool 64) → k ≡ next_object t.po
 grown_is t n s k p a b =
     ap (λ (x : ℕ). hung_from n s x p t) a ∙ ap (λ (x : Pool 64). hung_from n s (next_object t.pool) x t) b
 
-pub hung_as : (old new : Tree) (n s k : ℕ) → k ≡ next_object old.pool → new ≡ grown n s old → Hung n s (next_object old.pool) old (grown n s old) → Hung n s k old new
+hung_as : (old new : Tree) (n s k : ℕ) → k ≡ next_object old.pool → new ≡ grown n s old → Hung n s (next_object old.pool) old (grown n s old) → Hung n s k old new
 hung_as old new n s k a b h =
     subst (λ (x : ℕ). Hung n s x old new) (sym a) (subst (λ (u : Tree). Hung n s (next_object old.pool) old u) (sym b) h)
+
+-- the same by what the fields say, of which `now` is the view
+pub grown_hung : (t now new : Tree) (n s k : ℕ) → t ≡ now → Sound t → k ≡ next_object t.pool → new ≡ grown n s t → 0 < left now →
+    n < 65 → s < 64 → 0 < (link_at now.links n).level → (link_at now.links n).level < 3 → slot_at now.slots n s ≡ Vacant → Hung n s k now new
+grown_hung t now new n s k e ok ek is some hn hs live above was =
+    let sound = subst Sound e ok in
+    hung_as now new n s k (ek ∙ ap (λ (u : Tree). next_object u.pool) e) (is ∙ ap (grown n s) e) (hangs now n s sound some hn hs live above was)

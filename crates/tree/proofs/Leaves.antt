@@ -34,26 +34,26 @@ module _ (old now new : Tree) (n first last page : ℕ) (e : Mapping) (path : Le
   at_n : slot_at now.slots path.0 (page / 64 % 64) ≡ Child n
   at_n = ap (slot_at now.slots path.0) (omega (arith, same_2)) ∙ f.kept path.0 (first / 64 % 64) n (omega arith) path.2
 
-  was : slot_at now.slots n (page % 64) ≡ Vacant
-  was = sym (path_shows now.slots page path.0 n at_m at_n) ∙ f.rest page (omega arith) (λ _ y. omega (arith, y)) ∙ free page from to
+  pub leaf_was : slot_at now.slots n (page % 64) ≡ Vacant
+  leaf_was = sym (path_shows now.slots page path.0 n at_m at_n) ∙ f.rest page (omega arith) (λ _ y. omega (arith, y)) ∙ free page from to
 
-  live : 0 < (link_at now.links n).level
-  live = omega (arith, level_3 now.slots now.slots now.links f.sound.linked page path.0 n (omega arith) at_m at_n)
+  pub leaf_live : 0 < (link_at now.links n).level
+  leaf_live = omega (arith, level_3 now.slots now.slots now.links f.sound.linked page path.0 n (omega arith) at_m at_n)
 
   pub leaf_again : Within e → Filled first (page + 1) e old new
   leaf_again fits = filled_then first page (page + 1) e old now new from (omega arith) f
-      (leaf_filled now new f.sound e fits page (omega arith) path.0 n at_m at_n was w)
+      (leaf_filled now new f.sound e fits page (omega arith) path.0 n at_m at_n leaf_was w)
 
   pub leaf_left : left now ≡ left old → left new ≡ left old
-  leaf_left h = put_left now new f.sound n (page % 64) e w (omega arith) live was ∙ h
+  leaf_left h = put_left now new f.sound n (page % 64) e w (omega arith) leaf_live leaf_was ∙ h
 
   pub leaf_others : Others (λ a t. a ≡ n → ⊥) old now → Others (λ a t. a ≡ n → ⊥) old new
-  leaf_others h a t ht l ne = put_rest now new f.sound n (page % 64) e w (omega arith) live was a t ht (λ x _. ne x) ∙ h a t ht l ne
+  leaf_others h a t ht l ne = put_rest now new f.sound n (page % 64) e w (omega arith) leaf_live leaf_was a t ht (λ x _. ne x) ∙ h a t ht l ne
 
   pub leaf_gained : holders new.slots n ≡ holders now.slots n + 1
-  leaf_gained = holders_gain now.slots new.slots n (page % 64) (omega arith) (ap taken was)
-      (ap taken (put_here now new f.sound n (page % 64) e w (omega arith) live was))
-      (λ t ht ne. put_rest now new f.sound n (page % 64) e w (omega arith) live was n t ht (λ _ x. ne x))
+  leaf_gained = holders_gain now.slots new.slots n (page % 64) (omega arith) (ap taken leaf_was)
+      (ap taken (put_here now new f.sound n (page % 64) e w (omega arith) leaf_live leaf_was))
+      (λ t ht ne. put_rest now new f.sound n (page % 64) e w (omega arith) leaf_live leaf_was n t ht (λ _ x. ne x))
 
 pub covers_true : (x : Slot) (len size : ℕ) → true ≡ covers x len size → (x ≡ Vacant) × (len ≡ size)
 covers_true Vacant len size h = (refl, eqb-true len size (sym h))

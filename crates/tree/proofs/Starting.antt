@@ -3,7 +3,7 @@ use Rattle.std.proofs.Common.{◌≡◌, ℕ, zero, suc, ◌+◌, ◌*◌, ◌/�
 use lib.ListN.{length-replicate}
 use Rattle.std.proofs.lemmas.Bool.{cases_eq}
 use Rattle.tree.specs.declared.slot.Slot.{Slot}
-use Rattle.tree.specs.declared.slot.Slot.TheVariants.{Vacant, Child, Value}
+use Rattle.tree.specs.declared.slot.Slot.TheVariants.{Vacant, Value}
 use Rattle.tree.specs.declared.slot.Link.{Link}
 use Rattle.tree.specs.Nodes.{slot_at, link_at, no_link, down, slot_of}
 use Rattle.model.specs.declared.page.Mapping.{Mapping}
@@ -14,14 +14,12 @@ use Rattle.tree.specs.declared.table.Tree.{Tree}
 use Rattle.tree.specs.Changes.{rooted, planted}
 use Rattle.tree.specs.Holders.{holders}
 use Rattle.tree.proofs.Holding.{held_none}
+use Rattle.tree.proofs.Keeping.{vacant_child}
 
 same_everywhere : {A : Type 0} (n i : ℕ) (x : A) → get_or (replicate n x) i x ≡ x
 same_everywhere zero i x = refl
 same_everywhere (suc n) zero x = refl
 same_everywhere (suc n) (suc i) x = same_everywhere n i x
-
-no_child : {x : Slot} (k : ℕ) → x ≡ Vacant → x ≡ Child k → ⊥
-no_child k p q = let z : ◌≡◌ {A = ℕ} 0 1 = cc in omega arith
 
 no_value : {x : Slot} (v : Mapping) → x ≡ Vacant → x ≡ Value v → ⊥
 no_value v p q = let z : ◌≡◌ {A = ℕ} 0 1 = cc in omega arith
@@ -45,10 +43,10 @@ module _ (w n : ℕ) (r : Link) where
         tall = length-set (replicate n no_link) 1 r ∙ length-replicate n no_link ∙ en;
         none = ap (λ (u : Link). u.level) (one_root 0 (λ e. omega (arith, e)));
         root = ap (λ (u : Link). u.level) one ∙ er;
-        level = λ m t k _ p. absurd (no_child k (vacant m t) p);
+        level = λ m t k _ p. absurd (vacant_child k (vacant m t) p);
         deep = λ m. omega (arith, low m);
-        parent = λ m t k _ p. absurd (no_child k (vacant m t) p);
-        place = λ m t k _ p. absurd (no_child k (vacant m t) p);
+        parent = λ m t k _ p. absurd (vacant_child k (vacant m t) p);
+        place = λ m t k _ p. absurd (vacant_child k (vacant m t) p);
         hung = λ k h. absurd (omega (arith, low k, h));
         free = λ m t _ _. vacant m t;
         values = λ m t v _ p. absurd (no_value v (vacant m t) p);

@@ -1,4 +1,5 @@
 pub mod Pools
+pub mod Shape
 pub mod Nodes
 pub mod Soundness
 pub mod Changes

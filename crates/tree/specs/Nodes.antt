@@ -5,7 +5,7 @@ use Rattle.model.specs.Flat.{Flat}
 use Rattle.tree.specs.declared.slot.Slot.{Slot}
 use Rattle.tree.specs.declared.slot.Slot.TheVariants.{Vacant, Child, Value}
 use Rattle.tree.specs.declared.slot.Link.{Link}
-use Rattle.tree.specs.declared.table.Tree.{Tree}
+use Rattle.tree.specs.Shape.{Shape}
 
 -- slot s of node n
 abbrev pub slot_at : List Slot → ℕ → ℕ → Slot
@@ -36,5 +36,5 @@ state_of (Child k) = None
 state_of (Value e) = Some e
 
 -- the flat page map that a tree stands for
-abbrev pub shows : Tree → Flat
+abbrev pub shows : Shape → Flat
 shows t page = state_of (slot_of t.slots page)

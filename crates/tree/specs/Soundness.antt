@@ -4,7 +4,7 @@ use Rattle.std.specs.List.{All, AllPairs}
 use Rattle.tree.specs.declared.slot.Slot.{Slot}
 use Rattle.tree.specs.declared.slot.Slot.TheVariants.{Vacant, Child, Value}
 use Rattle.tree.specs.declared.slot.Link.{Link}
-use Rattle.tree.specs.declared.table.Tree.{Tree}
+use Rattle.tree.specs.Shape.{Shape}
 use Rattle.model.specs.declared.page.Mapping.{Mapping}
 use Rattle.model.specs.Pages.{Within}
 use Rattle.tree.specs.declared.pool.Pool.{Pool}
@@ -38,10 +38,10 @@ pub record Pooled (links : List Link) (p : Pool 64) : Type 0 where
   pub apart : AllPairs (λ m n. m ≢ n) p.returned.items
 
 -- a tree whose links and pool are in order
-pub record Sound (t : Tree) : Type 0 where
+pub record Sound (t : Shape) : Type 0 where
   pub linked : Linked t.slots t.links
   pub pooled : Pooled t.links t.pool
 
 -- how many nodes can be drawn
-abbrev pub left : Tree → ℕ
+abbrev pub left : Shape → ℕ
 left t = unused t.pool

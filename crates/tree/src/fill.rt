@@ -32,7 +32,6 @@ impl Slot {
 impl Tree {
     // Fills pages of one leaf.
     fn fill_leaf(&mut self, n: NodeId, pages: Pages, e: Mapping)
-        requires sound { Sound self.old }
         requires fits { Within e }
         requires node { n < 65 }
         requires block { (pages.last - 1) / 64 ≡ pages.first / 64 }
@@ -45,6 +44,7 @@ impl Tree {
         ensures links { self.new.links ≡ self.old.links }
         ensures gained { holders self.new.slots n ≡ holders self.old.slots n + (pages.last - pages.first) }
     {
+        self.sound();
         for page in pages.first..pages.last {
             self.put(n, page % 64, e);
         }
@@ -60,7 +60,6 @@ impl Tree {
         pages: Pages,
         e: Mapping,
     )
-        requires sound { Sound self.old }
         requires fits { Within e }
         requires node { m < 65 }
         requires block { (pages.last - 1) / 64 ≡ pages.first / 64 }
@@ -81,6 +80,7 @@ impl Tree {
         ensures quiet { older ≡ false → (C.Counter.meaning counter.new).holders m ≡ (C.Counter.meaning counter.old).holders m }
         ensures gained { slot_at self.old.slots m (pages.first / 64 % 64) ≡ Vacant → holders self.new.slots m ≡ holders self.old.slots m + 1 }
     {
+        self.sound();
         let s = pages.first / 64 % 64;
         let slot = self.at(m, s);
         if slot.whole::<64>(pages) {
@@ -113,7 +113,6 @@ impl Tree {
         pages: Pages,
         e: Mapping,
     )
-        requires sound { Sound self.old }
         requires fits { Within e }
         requires node { m < 65 }
         requires block { (pages.last - 1) / 4096 ≡ pages.first / 4096 }
@@ -134,14 +133,14 @@ impl Tree {
         ensures quiet { older ≡ false → (C.Counter.meaning counter.new).holders m ≡ (C.Counter.meaning counter.old).holders m }
         ensures goes { Goes m pages.first pages.last ((pages.last - 1) / 64 + 1) self.old self.new }
     {
+        self.sound();
         for block in pages.first_block::<64>()..pages.end_block::<64>() {
             self.fill_block(counter, core, older, m, pages.in_block::<64>(block), e);
         }
     }
 
-    // Fills pages under one slot of the root.
+    // Fills pages under one slot of the root. Not one with a block's: what a middle node gains is told as it is filled, a leaf's after.
     fn fill_top<C: Counter<Nodes>>(&mut self, counter: &mut C, core: Core, pages: Pages, e: Mapping)
-        requires sound { Sound self.old }
         requires fits { Within e }
         requires block { (pages.last - 1) / 4096 ≡ pages.first / 4096 }
         requires free { Free self.old pages.first pages.last }
@@ -158,6 +157,7 @@ impl Tree {
         ensures idle { Idle (C.Counter.meaning counter.new).holders self.new }
         ensures aside { Aside (C.Counter.meaning counter.old) (C.Counter.meaning counter.new) }
     {
+        self.sound();
         let s = pages.first / 4096;
         let slot = self.at(1, s);
         if slot.whole::<4096>(pages) {
@@ -181,7 +181,6 @@ impl Tree {
 
     /// Every page of the range, all vacant, comes to be as e says, and the counter has the holders of every node.
     pub fn fill<C: Counter<Nodes>>(&mut self, counter: &mut C, core: Core, pages: Pages, e: Mapping)
-        requires sound { Sound self.old }
         requires fits { Within e }
         requires free { Free self.old pages.first pages.last }
         requires room { need self.old.slots pages.first pages.last ≤ left self.old }
@@ -194,6 +193,7 @@ impl Tree {
         ensures tallied { Tallied (C.Counter.meaning counter.new) self.new }
         ensures aside { Aside (C.Counter.meaning counter.old) (C.Counter.meaning counter.new) }
     {
+        self.sound();
         for top in pages.first_block::<4096>()..pages.end_block::<4096>() {
             self.fill_top(counter, core, pages.in_block::<4096>(top), e);
         }

@@ -5,6 +5,7 @@ ghost use Rattle.tree.specs.Nodes.{slot_at, link_at, slot_of};
 ghost use Rattle.tree.specs.Soundness.{Sound, left};
 ghost use Rattle.tree.specs.Changes.{planted, written, grown};
 ghost use Rattle.tree.specs.Walks.{Hung};
+ghost use Rattle.model.specs.Pages.{Within};
 
 use super::pool::Pool;
 use super::slot::{Link, NodeId, Slot};
@@ -43,7 +44,11 @@ impl Tree {
 
     /// Slot s of node n comes to hold a value.
     pub(super) fn put(&mut self, n: NodeId, s: u32, e: Mapping)
-        requires { (n < 65) × (s < 64) }
+        requires node { n < 65 }
+        requires place { s < 64 }
+        requires live { 0 < (link_at self.old.links n).level }
+        requires vacant { slot_at self.old.slots n s ≡ Vacant }
+        requires fits { Within e }
         ensures { self.new ≡ written n s (Value e) self.old }
     {
         self.slots[n as usize * 64 + s as usize] = Slot::Value(e);
@@ -51,7 +56,6 @@ impl Tree {
 
     /// A vacant slot above the leaves gets a child with vacant slots.
     pub(super) fn grow(&mut self, n: NodeId, s: u32) -> NodeId
-        requires sound { Sound self.old }
         requires some { 0 < left self.old }
         requires node { n < 65 }
         requires place { s < 64 }

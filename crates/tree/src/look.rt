@@ -22,11 +22,11 @@ impl Slot {
 impl Tree {
     /// The state of a page, in three steps from the root.
     pub fn look(&self, page: Page) -> PageState
-        requires sound { Sound self.now }
         requires small { page < 262144 }
         ensures is { result ≡ shows self.now page }
         ensures proper { Proper result }
     {
+        self.sound();
         let top = self.at(1, page / 4096);
         let Slot::Child(m) = top else {
             return top.state();

@@ -12,10 +12,10 @@ use model::page::{Mapping, Page};
 impl Tree {
     /// The lowest page of the range that is in use and fits.
     pub fn lowest<F: Fn(Mapping) -> bool>(&self, pages: Pages, fits: F) -> Option<Page>
-        requires sound { Sound self.now }
         requires calls { F.IsAlwaysCallable fits }
         ensures { (test : PageState → Bool) → Tells (F.post fits) test → result ≡ lowest (found_at test self.now) pages.first (pages.last - pages.first) }
     {
+        self.sound();
         let found = 'walk: {
             for top in pages.first_block::<4096>()..pages.end_block::<4096>() {
                 let under = pages.in_block::<4096>(top);

@@ -4,6 +4,7 @@ ghost use Rattle.tree.specs.Nodes.{slot_at, link_at};
 ghost use Rattle.tree.specs.Soundness.{Sound, left};
 ghost use Rattle.tree.specs.Need.{part, need_mid, root_part, need};
 ghost use Rattle.tree.specs.Room.{room_for};
+ghost use Rattle.tree.specs.Pools.{in_use};
 
 use super::pages::Pages;
 use super::slot::{NodeId, Slot};
@@ -26,10 +27,16 @@ impl Slot {
 impl Tree {
     /// How many nodes can be drawn.
     pub fn free_nodes(&self) -> usize
-        requires { Sound self.now }
         ensures { result ≡ left self.now }
     {
         self.pool.free()
+    }
+
+    /// How many nodes are drawn, the root among them.
+    pub fn nodes_in_use(&self) -> usize
+        ensures { result ≡ in_use self.now.pool }
+    {
+        self.pool.in_use()
     }
 
     // The children that a fill under a middle node draws: only the first and the last block can be met in part.
@@ -42,11 +49,12 @@ impl Tree {
         pages.at_ends::<64, _>(|part| self.at(m, part.first / 64 % 64).need(part))
     }
 
+    // Under one slot of the root. Not one function with a slot's above a leaf: a new middle node draws children of its own.
     fn need_of_top(&self, pages: Pages) -> usize
-        requires sound { Sound self.now }
         ensures is { result ≡ root_part self.now.slots (slot_at self.now.slots 1 (pages.first / 4096)) pages.first pages.last }
         ensures few { result ≤ 3 }
     {
+        self.sound();
         match self.at(1, pages.first / 4096) {
             Slot::Vacant => {
                 if pages.len() == 4096 {
@@ -61,7 +69,6 @@ impl Tree {
 
     // How many children a fill of the range draws, inside new nodes too.
     fn need(&self, pages: Pages) -> usize
-        requires sound { Sound self.now }
         ensures { result ≡ need self.now.slots pages.first pages.last }
     {
         pages.at_ends::<4096, _>(|part| self.need_of_top(part))
@@ -69,7 +76,6 @@ impl Tree {
 
     /// Refuses a fill that needs more nodes than are free.
     pub fn check_room(&self, pages: Pages) -> Result<(), TreeFault>
-        requires sound { Sound self.now }
         ensures { result ≡ room_for pages.first pages.last self.now }
     {
         if self.free_nodes() < self.need(pages) {

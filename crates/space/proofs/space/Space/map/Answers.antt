@@ -28,7 +28,6 @@ fill-requires g c =
     let t = c.args.self.now.tree in
     let e = sym c.in_ok-pages.ensures.check in
     record {
-      sound = ok.tree;
       fits = subst Within (sym c.fresh.ensures) (record { owner = omega arith; frame = omega arith });
       free = λ q lo hi. vacant c.args.core c.args.label c.args.first c.args.count c.args.self.now.cores t ok.tree e q (omega (arith, lo, r.starts)) (omega (arith, hi, r.ends));
       room = between (λ a z. need t.slots a z ≤ left t) _ _ _ _ (sym r.starts) (sym r.ends) (room c.args.core c.args.label c.args.first c.args.count c.args.self.now.cores t ok.tree e);

@@ -8,7 +8,7 @@ pub loop-top-init : goal.loop-top-init
 loop-top-init g c =
     let b = c.first_block-top.ensures in
     record {
-      tree = come_first _ _ _ _ c.args.pages.some _ c.requires.sound b;
+      tree = come_first _ _ _ _ c.args.pages.some _ c.sound.ensures b;
       exact = walk_start 4096 _ _ _ _ _ b;
       told = told_start 4096 _ _ _ _ g.C.Counter.steps _ _ _ b;
       counted = c.requires.tallied.held;
@@ -21,7 +21,6 @@ fill_top-requires g c =
     let i = c.loop-top.invariant in
     let part = c.in_block.ensures in
     record {
-      sound = i.tree.filled.sound;
       fits = c.requires.fits;
       block = omega (arith, part);
       free = top_free _ _ _ _ _ _ _ _ c.args.pages.small c.requires.free c.requires.room (omega arith) (omega arith) c.args.pages.some part.first part.last i.tree;

@@ -1,14 +1,28 @@
-use Rattle.std.proofs.Common.{◌≡◌, ℕ, ◌-◌, sym, refl, ap, ◌∙◌, subst, arith}
+use Rattle.std.proofs.Common.{◌≡◌, ℕ, ◌-◌, ◌%◌, sym, refl, ap, ◌∙◌, subst, arith}
 use Rattle.tree.specs.declared.table.Tree.{Tree}
+use Rattle.tree.specs.declared.slot.Slot.TheVariants.{Value}
+use Rattle.tree.specs.Changes.{written}
 use Rattle.tree.specs.Fill.{fill_leaf}
 use Rattle.tree.proofs.Exact.{leaf_start, leaf_to}
 use Rattle.tree.specs.Filled.{Filled}
 use Rattle.tree.proofs.Filling.{filled_none}
-use Rattle.tree.proofs.Leaves.{leaf_again, leaf_left, leaf_others, leaf_gained}
+use Rattle.tree.proofs.Leaves.{leaf_was, leaf_live, leaf_again, leaf_left, leaf_others, leaf_gained}
 use Rattle.tree.proofs.table.Tree.fill_leaf.Goals as goal
 
 pub loop-page-init : goal.loop-page-init
-loop-page-init c = (filled_none _ _ _ c.requires.sound, refl, (λ a t _ _ _. refl), refl, refl, sym (leaf_start c.args.n c.args.pages.first c.args.e c.args.self.now))
+loop-page-init c = (filled_none _ _ _ c.sound.ensures, refl, (λ a t _ _ _. refl), refl, refl, sym (leaf_start c.args.n c.args.pages.first c.args.e c.args.self.now))
+
+pub put-requires : goal.put-requires
+put-requires c =
+    let i = c.loop-page.invariant in
+    let new = written c.args.n (c.loop-page.page % 64) (Value c.args.e) c.loop-page.self in
+    record {
+      node = c.requires.node;
+      place = omega arith;
+      live = leaf_live _ _ new _ _ c.args.pages.last c.loop-page.page _ c.requires.path c.requires.block (omega arith) (omega arith) c.args.pages.small c.requires.free i.0 refl;
+      vacant = leaf_was _ _ new _ _ c.args.pages.last c.loop-page.page _ c.requires.path c.requires.block (omega arith) (omega arith) c.args.pages.small c.requires.free i.0 refl;
+      fits = c.requires.fits;
+    }
 
 pub loop-page-preserved : goal.loop-page-preserved
 loop-page-preserved c =

@@ -9,7 +9,7 @@ pub loop-block-init : goal.loop-block-init
 loop-block-init g c =
     let b = c.first_block-block.ensures in
     record {
-      tree = under_first _ _ _ _ _ c.args.pages.some _ c.requires.sound b;
+      tree = under_first _ _ _ _ _ c.args.pages.some _ c.sound.ensures b;
       goes = goes_first _ _ _ c.args.e _ c.args.pages.some _ b;
       exact = walk_start 64 _ _ _ _ _ b;
       told = told_start 64 _ _ _ _ g.C.Counter.steps _ _ _ b;
@@ -24,7 +24,6 @@ fill_block-requires g c =
     let i = c.loop-block.invariant in
     let part = c.in_block.ensures in
     record {
-      sound = i.tree.filled.sound;
       fits = c.requires.fits;
       node = c.requires.node;
       block = omega (arith, part);

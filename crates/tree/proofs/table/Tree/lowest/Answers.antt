@@ -28,7 +28,7 @@ loop-block-init g c test tells q a b h = c.loop-top.invariant test tells q a b (
 pub at-requires-in-loop-block : goal.at-requires-in-loop-block
 at-requires-in-loop-block g c =
     let top : c.in_block-under.result.first / 4096 ≡ c.loop-top.top = omega arith in (
-      middle_small c.args.self.now c.requires.sound c.in_block-under.result.first c.in-Child.middle (omega arith) (ap (slot_at c.args.self.now.slots 1) top ∙ sym c.in-Child.ensures),
+      middle_small c.args.self.now c.sound.ensures c.in_block-under.result.first c.in-Child.middle (omega arith) (ap (slot_at c.args.self.now.slots 1) top ∙ sym c.in-Child.ensures),
       omega arith,
     )
 
@@ -53,7 +53,7 @@ pub at-requires-in-loop-page : goal.at-requires-in-loop-page
 at-requires-in-loop-page g c =
     let top : c.loop-page.page / 4096 ≡ c.loop-top.top = omega arith in
     let block : c.loop-page.page / 64 % 64 ≡ c.loop-block.block % 64 = omega arith in (
-      leaf_small c.args.self.now c.requires.sound c.loop-page.page c.in-Child.middle c.in-Child-at.leaf (omega arith)
+      leaf_small c.args.self.now c.sound.ensures c.loop-page.page c.in-Child.middle c.in-Child-at.leaf (omega arith)
           (ap (slot_at c.args.self.now.slots 1) top ∙ sym c.in-Child.ensures) (ap (slot_at c.args.self.now.slots c.in-Child.middle) block ∙ sym c.in-Child-at.ensures),
       omega arith,
     )

@@ -10,7 +10,7 @@ use Rattle.tree.proofs.table.Tree.need_of_top.Goals as goal
 
 pub need_of_middle-requires-in-Child : goal.need_of_middle-requires-in-Child
 need_of_middle-requires-in-Child c = record {
-  node = live_small _ c.requires.sound c.in-Child.m (omega (arith, c.requires.sound.linked.level 1 (c.args.pages.first / 4096) c.in-Child.m (omega arith) (sym c.in-Child.ensures)));
+  node = live_small _ c.sound.ensures c.in-Child.m (omega (arith, c.sound.ensures.linked.level 1 (c.args.pages.first / 4096) c.in-Child.m (omega arith) (sym c.in-Child.ensures)));
 }
 
 pub returns-else-len-eq4096 : goal.returns-else-len-eq4096
@@ -20,7 +20,7 @@ returns-else-len-eq4096 c =
     let xs = c.args.self.now.slots in
     let a = ap (λ (x : Slot). root_part xs x first last) (sym c.in-Vacant.ensures) in
     let b = cond-false (eqb (last - first) 4096) 0 (1 + need_by (λ _. Vacant) first last) (ne_eqb (last - first) 4096 (rw c.len.ensures at c.if-len-eq4096.false)) in
-    let d = need_same (λ x. slot_at xs 0 (x % 64)) (λ _. Vacant) first last (λ x _ _ _. c.requires.sound.linked.free 0 (x % 64) (omega arith) c.requires.sound.linked.none) in
+    let d = need_same (λ x. slot_at xs 0 (x % 64)) (λ _. Vacant) first last (λ x _ _ _. c.sound.ensures.linked.free 0 (x % 64) (omega arith) c.sound.ensures.linked.none) in
     let n = c.need_of_middle.ensures.is in
     record {
       is = omega (arith, a, b, d, n);
