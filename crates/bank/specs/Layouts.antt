@@ -1,6 +1,6 @@
 -- The two layouts of tables.
 use Rattle.std.specs.Prelude.{◌+◌, ◌*◌, ◌%◌, ◌&&◌, ◌==◌}
-use Rattle.bank.specs.declared.page_tables.Translation.{Translation}
+use Rattle.bank.specs.declared.translation.Translation.{Translation}
 use Rattle.bank.specs.declared.inverted_table.Tagged.{Tagged}
 use Rattle.bank.specs.Tables.{Layout}
 

@@ -5,6 +5,6 @@ pub mod bank;
 pub mod inverted_table;
 pub mod page_tables;
 pub mod reload;
-pub mod reload_entry;
 pub mod reload_row;
 pub mod reload_rows;
+pub mod translation;

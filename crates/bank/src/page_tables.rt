@@ -4,14 +4,8 @@ ghost use Rattle.bank.specs.Tables.{shown, Stepped, Vacant};
 ghost use Rattle.bank.specs.Layouts.{per_core};
 
 use super::bank::Bank;
+use super::translation::Translation;
 use model::page::{Core, Frame, Page};
-
-/// A page with its frame. It need not name its core: each core has entries of its own.
-#[derive(Clone, Copy)]
-pub struct Translation {
-    pub page: Page,
-    pub frame: Frame,
-}
 
 /// Page tables: 256 entries for each of 16 cores, one core after another.
 #[derive(Drop)]

@@ -1,13 +1,13 @@
 ghost use Rattle.std.specs.Prelude.{◌≡◌, ℕ, ◌<◌, true, length, replicate, Some, None, slice_index_or};
 ghost use Rattle.bank.specs.ReloadEntries.{own, once, paged, Located, Taken, Vacated, Displaces};
 
-use super::reload_entry::ReloadEntry;
+use super::translation::Translation;
 use model::page::{Frame, Page};
 
 /// The entries of one core, which newcomers take in turn.
 #[derive(Clone, Copy)]
 pub struct ReloadRow {
-    entries: [Option<ReloadEntry>; 8],
+    entries: [Option<Translation>; 8],
     /// The entry that the next newcomer takes.
     turn: u8,
     ghost full: { length entries ≡ 8 },
@@ -58,7 +58,7 @@ impl ReloadRow {
     }
 
     /// Takes the page in with its frame, and answers what it displaced.
-    pub fn take(&mut self, page: Page, frame: Frame) -> Option<ReloadEntry>
+    pub fn take(&mut self, page: Page, frame: Frame) -> Option<Translation>
         requires { page < 262144 }
         ensures here { own self.new.entries page ≡ Some frame }
         ensures rest { Displaces page result self.old.entries self.new.entries }
@@ -67,13 +67,13 @@ impl ReloadRow {
     {
         match self.place_of(page) {
             Some(i) => {
-                self.entries[i] = Some(ReloadEntry { page, frame });
+                self.entries[i] = Some(Translation { page, frame });
                 None
             }
             None => {
                 let slot = self.turn as usize;
                 let displaced = self.entries[slot];
-                self.entries[slot] = Some(ReloadEntry { page, frame });
+                self.entries[slot] = Some(Translation { page, frame });
                 self.turn = (self.turn + 1) % 8;
                 displaced
             }

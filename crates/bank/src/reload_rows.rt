@@ -2,8 +2,8 @@ ghost use Rattle.std.specs.Prelude.{◌≡◌, ℕ, ◌<◌, Some, None};
 ghost use Rattle.bank.specs.Meaning.{Dropped, Empty};
 ghost use Rattle.bank.specs.ReloadRows.{held, Bare, Displaced, Took, Vacates};
 
-use super::reload_entry::ReloadEntry;
 use super::reload_row::ReloadRow;
+use super::translation::Translation;
 use model::page::{Core, Frame, Page};
 
 /// A row for each core.
@@ -32,7 +32,7 @@ impl ReloadRows {
     }
 
     /// Takes the page in at the core's row, and answers what it displaced.
-    pub fn take(&mut self, core: Core, page: Page, frame: Frame) -> Option<ReloadEntry>
+    pub fn take(&mut self, core: Core, page: Page, frame: Frame) -> Option<Translation>
         requires core { core < 16 }
         requires page { page < 262144 }
         ensures here { held self.new.rows core page ≡ Some frame }

@@ -1,5 +1,5 @@
 use Rattle.std.proofs.Common.{◌<◌, length, Some, None, refl, arith, rules}
-use Rattle.bank.specs.declared.reload_entry.ReloadEntry.{ReloadEntry}
+use Rattle.bank.specs.declared.translation.Translation.{Translation}
 use Rattle.bank.proofs.ReloadFound.{once_set, pages_set, alone_hit, others_hit, here_own, none_stays, displaces, replaced}
 use Rattle.bank.proofs.reload_row.ReloadRow.take.Goals as goal
 
@@ -7,7 +7,7 @@ pub invariant_of-self : goal.invariant_of-self
 invariant_of-self c =
     let r = c.args.self.now in
     let at = c.in-Some.ensures.1 in
-    let u : ReloadEntry = record { page = c.args.page; frame = c.args.frame } in
+    let u : Translation = record { page = c.args.page; frame = c.args.frame } in
     let alone = alone_hit r.entries c.in-Some.i at.0 c.args.page r.single at.1 at.2 in
     record {
       full = search rules;
@@ -19,7 +19,7 @@ invariant_of-self c =
 pub invariant_of-self-in-None : goal.invariant_of-self-in-None
 invariant_of-self-in-None c =
     let r = c.args.self.now in
-    let u : ReloadEntry = record { page = c.args.page; frame = c.args.frame } in
+    let u : Translation = record { page = c.args.page; frame = c.args.frame } in
     let alone = none_stays r.entries r.turn None c.args.page c.in-None.ensures tt in
     record {
       full = search rules;
@@ -32,7 +32,7 @@ pub returns-in-Some : goal.returns-in-Some
 returns-in-Some c =
     let r = c.args.self.now in
     let at = c.in-Some.ensures.1 in
-    let u : ReloadEntry = record { page = c.args.page; frame = c.args.frame } in
+    let u : Translation = record { page = c.args.page; frame = c.args.frame } in
     let within : c.in-Some.i < length r.entries = omega (arith, c.in-Some.ensures.0) in
     let alone = alone_hit r.entries c.in-Some.i at.0 c.args.page r.single at.1 at.2 in
     record {
@@ -45,7 +45,7 @@ returns-in-Some c =
 pub returns-in-None : goal.returns-in-None
 returns-in-None c =
     let r = c.args.self.now in
-    let u : ReloadEntry = record { page = c.args.page; frame = c.args.frame } in
+    let u : Translation = record { page = c.args.page; frame = c.args.frame } in
     let within : r.turn < length r.entries = omega arith in
     let alone = none_stays r.entries r.turn None c.args.page c.in-None.ensures tt in
     record {
