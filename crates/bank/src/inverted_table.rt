@@ -1,9 +1,10 @@
-ghost use Rattle.std.specs.Prelude.{◌≡◌, ◌<◌};
+ghost use Rattle.std.specs.Prelude.{◌≡◌};
 ghost use Rattle.bank.specs.Meaning.{Empty};
 ghost use Rattle.bank.specs.Tables.{shown, Stepped, Vacant};
 ghost use Rattle.bank.specs.Layouts.{all_cores};
 
 use super::bank::Bank;
+use super::pair::Pair;
 use model::page::{Core, Frame, Page};
 
 /// A page with its frame on the core that it names: the pages of several cores share an entry.
@@ -21,12 +22,10 @@ pub struct InvertedTable {
 }
 
 /// The only entry that may hold the pair; cores are 16 entries apart, so that one page does not meet itself.
-fn place(core: Core, page: Page) -> usize
-    requires core { core < 16 }
-    requires page { page < 262144 }
-    ensures { result ≡ all_cores.place core page }
+fn place(pair: Pair) -> usize
+    ensures { result ≡ all_cores.place pair.core pair.page }
 {
-    (page as usize + 16 * core as usize) % 256
+    (pair.page as usize + 16 * pair.core as usize) % 256
 }
 
 impl InvertedTable {
@@ -47,24 +46,28 @@ impl Bank for InvertedTable {
     ghost steps = { λ old o new. Stepped all_cores old.entries o new.entries };
 
     // The newcomer displaces the occupant.
-    fn install(&mut self, core: Core, page: Page, frame: Frame) {
-        self.entries[place(core, page)] = Some(Tagged { core, page, frame });
+    fn install(&mut self, pair: Pair, frame: Frame) {
+        self.entries[place(pair)] = Some(Tagged {
+            core: pair.core,
+            page: pair.page,
+            frame,
+        });
     }
 
-    fn drop_page(&mut self, core: Core, page: Page) {
-        let at = place(core, page);
+    fn drop_page(&mut self, pair: Pair) {
+        let at = place(pair);
         if let Some(t) = self.entries[at]
-            && t.core == core
-            && t.page == page
+            && t.core == pair.core
+            && t.page == pair.page
         {
             self.entries[at] = None;
         }
     }
 
-    fn show(&self, core: Core, page: Page) -> Option<Frame> {
-        let entry = self.entries[place(core, page)];
+    fn show(&self, pair: Pair) -> Option<Frame> {
+        let entry = self.entries[place(pair)];
         match entry {
-            Some(t) if t.core == core && t.page == page => Some(t.frame),
+            Some(t) if t.core == pair.core && t.page == pair.page => Some(t.frame),
             _ => None,
         }
     }

@@ -1,11 +1,12 @@
-ghost use Rattle.std.specs.Prelude.{◌≡◌, ◌<◌};
+ghost use Rattle.std.specs.Prelude.{◌≡◌};
 ghost use Rattle.bank.specs.Meaning.{Empty};
 ghost use Rattle.bank.specs.Tables.{shown, Stepped, Vacant};
 ghost use Rattle.bank.specs.Layouts.{per_core};
 
 use super::bank::Bank;
+use super::pair::Pair;
 use super::translation::Translation;
-use model::page::{Core, Frame, Page};
+use model::page::Frame;
 
 /// Page tables: 256 entries for each of 16 cores, one core after another.
 #[derive(Drop)]
@@ -14,11 +15,10 @@ pub struct PageTables {
 }
 
 /// The only entry that may hold the pair.
-fn place(core: Core, page: Page) -> usize
-    requires { core < 16 }
-    ensures { result ≡ per_core.place core page }
+fn place(pair: Pair) -> usize
+    ensures { result ≡ per_core.place pair.core pair.page }
 {
-    core as usize * 256 + page as usize % 256
+    pair.core as usize * 256 + pair.page as usize % 256
 }
 
 impl PageTables {
@@ -39,23 +39,26 @@ impl Bank for PageTables {
     ghost steps = { λ old o new. Stepped per_core old.entries o new.entries };
 
     // The newcomer displaces the occupant.
-    fn install(&mut self, core: Core, page: Page, frame: Frame) {
-        self.entries[place(core, page)] = Some(Translation { page, frame });
+    fn install(&mut self, pair: Pair, frame: Frame) {
+        self.entries[place(pair)] = Some(Translation {
+            page: pair.page,
+            frame,
+        });
     }
 
-    fn drop_page(&mut self, core: Core, page: Page) {
-        let at = place(core, page);
+    fn drop_page(&mut self, pair: Pair) {
+        let at = place(pair);
         if let Some(t) = self.entries[at]
-            && t.page == page
+            && t.page == pair.page
         {
             self.entries[at] = None;
         }
     }
 
-    fn show(&self, core: Core, page: Page) -> Option<Frame> {
-        let entry = self.entries[place(core, page)];
+    fn show(&self, pair: Pair) -> Option<Frame> {
+        let entry = self.entries[place(pair)];
         match entry {
-            Some(t) if t.page == page => Some(t.frame),
+            Some(t) if t.page == pair.page => Some(t.frame),
             _ => None,
         }
     }

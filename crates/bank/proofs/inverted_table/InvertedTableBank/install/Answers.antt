@@ -8,6 +8,6 @@ pub returns : goal.returns
 returns c =
     let a = c.args in
     record {
-      means = installed all_cores all_cores_lawful a.self.now.entries c.place.result a.core a.page a.frame c.place.ensures (omega arith);
+      means = installed all_cores all_cores_lawful a.self.now.entries c.place.result a.pair.core a.pair.page a.frame c.place.ensures (omega arith);
       exact = cc;
     }

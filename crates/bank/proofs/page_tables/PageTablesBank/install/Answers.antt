@@ -8,6 +8,6 @@ pub returns : goal.returns
 returns c =
     let a = c.args in
     record {
-      means = installed per_core per_core_lawful a.self.now.entries c.place.result a.core a.page a.frame c.place.ensures (omega arith);
+      means = installed per_core per_core_lawful a.self.now.entries c.place.result a.pair.core a.pair.page a.frame c.place.ensures (omega arith);
       exact = cc;
     }

@@ -4,6 +4,6 @@ use Rattle.bank.proofs.reload_rows.ReloadRows.frame_of.Goals as goal
 
 pub returns : goal.returns
 returns c =
-    let h : c.args.core < length c.args.self.now.rows = search rules in
-    let e = entries_read c.args.self.now.rows c.args.core c.index-self-core.result h in
+    let h : c.args.pair.core < length c.args.self.now.rows = search rules in
+    let e = entries_read c.args.self.now.rows c.args.pair.core c.index-self-pair.result h in
     grind arith
