@@ -8,4 +8,5 @@ pub mod pair;
 pub mod reload;
 mod reload_row;
 mod reload_rows;
+pub mod table;
 pub mod translation;
