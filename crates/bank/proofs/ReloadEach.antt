@@ -1,11 +1,11 @@
-use Rattle.std.proofs.Common.{◌≡◌, ℕ, zero, suc, ◌<◌, ◌≢◌, ◌⊎◌, List, [], ◌∷◌, length, get_or, set, replicate, Some, None, Option, refl, inl, inr, arith}
+use Rattle.std.proofs.Common.{◌≡◌, ℕ, zero, suc, ◌<◌, ◌≢◌, ◌⊎◌, List, [], ◌∷◌, length, get_or, set, Some, None, Option, refl, inl, inr, arith}
 use Rattle.std.proofs.lemmas.List.{get_or-map}
 use Rattle.std.proofs.lemmas.Bool.{cases_eq}
-use Rattle.bank.specs.Meaning.{Dropped, Empty}
+use Rattle.bank.specs.Meaning.{Dropped}
 use Rattle.bank.specs.declared.translation.Translation.{Translation}
 use Rattle.bank.specs.declared.reload_row.ReloadRow.{ReloadRow}
 use Rattle.bank.specs.ReloadEntries.{own, paged, Displaces}
-use Rattle.bank.specs.ReloadRows.{entries_of, turn_of, held, Bare, Displaced}
+use Rattle.bank.specs.ReloadRows.{entries_of, turn_of, held, Displaced}
 
 pub entries_same : (rows : List ReloadRow) (c : ℕ) (r : ReloadRow) → c < length rows → entries_of (set rows c r) c ≡ r.entries
 entries_same [] c r h = grind arith
@@ -55,17 +55,3 @@ displaced rows c p es r (Some t) h is was small =
       (grind arith),
       λ d q apart more. kept rows c es r (λ q. (q ≢ p) × (q ≢ t.page)) h is (λ q a. was.3 q a.0 a.1) d q (λ same. (apart same, more same)) (cases_eq d c),
     )
-
--- empty entries have no frame for any page
-none_own : (n c p : ℕ) → own (get_or (replicate n (replicate 8 None)) c []) p ≡ None
-none_own zero c p = refl
-none_own (suc n) zero p = refl
-none_own (suc n) (suc c) p = none_own n c p
-
--- bare rows hold nothing
-pub bare_empty : (rows : List ReloadRow) → Bare rows → Empty (held rows)
-bare_empty rows bare d q = simp bare.entries (none_own 16 d q)
-
--- rows that were all made empty are bare
-pub bare_rows : (r : ReloadRow) → r.entries ≡ replicate 8 None → r.turn ≡ 0 → Bare (replicate 16 r)
-bare_rows r empty first = record { entries = simp empty; turns = simp first }

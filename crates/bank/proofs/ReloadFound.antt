@@ -1,8 +1,40 @@
-use Rattle.std.proofs.Common.{◌≡◌, ℕ, zero, suc, ◌<◌, true, cond, not, eqb, ◌≢◌, List, [], ◌∷◌, length, get_or, set, is_some, Some, None, Option, refl, ap, arith, MatchOption}
+use Rattle.std.proofs.Common.{◌≡◌, ℕ, zero, suc, ◌+◌, ◌<◌, true, cond, not, eqb, ◌≢◌, List, [], ◌∷◌, length, get_or, set, is_some, Some, None, Option, refl, sym, ◌∙◌, ap, arith}
 use Rattle.std.proofs.lemmas.Bool.Decides.{nat_tests}
 use Rattle.std.proofs.lemmas.Bool.{and_parts}
 use Rattle.bank.specs.declared.translation.Translation.{Translation}
-use Rattle.bank.specs.ReloadEntries.{own, once, paged, Has, Lacks, Rewritten, Taken, Vacated, Displaces}
+use Rattle.std.specs.List.{position, position_from}
+use Rattle.std.proofs.lemmas.Iterator.Adapters.{position_from-zero}
+use Rattle.std.proofs.lemmas.List.Quantifiers.{position-Some}
+use Rattle.bank.specs.ReloadEntries.{own, once, paged, has_page, Lacks, Rewritten, Taken, Vacated, Displaces}
+
+none_from : (p i : ℕ) (es : List (Option Translation)) → position_from (has_page p) i es ≡ None → own es p ≡ None
+none_from p i [] h = refl
+none_from p i (None ∷ es) h = none_from p (i + 1) es h
+none_from p i (Some e ∷ es) h =
+    let rest : position_from (has_page p) (i + 1) es ≡ None = grind (arith, nat_tests) in
+    let more = none_from p (i + 1) es rest in
+    grind (arith, nat_tests)
+
+has_entry : (p : ℕ) (o : Option Translation) → has_page p o ≡ true → (e : Translation) × (o ≡ Some e) × (e.page ≡ p)
+has_entry p None h = grind arith
+has_entry p (Some e) h = (e, refl, grind (arith, nat_tests))
+
+-- where no slot has the page, it is not found
+pub nowhere : (p : ℕ) (es : List (Option Translation)) → None ≡ position (has_page p) es → own es p ≡ None
+nowhere p es is = none_from p 0 es (sym (is ∙ position_from-zero (has_page p) es))
+
+-- the slot at i, one of eight, has an entry of the page
+pub record Stands (p i : ℕ) (es : List (Option Translation)) : Type 0 where
+  pub within : i < 8
+  pub entry : Translation
+  pub at : get_or es i None ≡ Some entry
+  pub is : entry.page ≡ p
+
+pub found : (p i : ℕ) (es : List (Option Translation)) → length es ≡ 8 → Some i ≡ position (has_page p) es → Stands p i es
+found p i es full is =
+    let first = position-Some (has_page p) es i None (sym is) in
+    let has = has_entry p (get_or es i None) first.1 in
+    record { within = omega (arith, full, first.0); entry = has.0; at = has.1; is = has.2 }
 
 -- an entry that stands is found
 pub held_own : (es : List (Option Translation)) (i : ℕ) (t : Translation) → once es ≡ true → get_or es i None ≡ Some t → own es t.page ≡ Some t.frame
@@ -102,53 +134,44 @@ pages_set (x ∷ es) zero e n old new (suc k) = old (suc k)
 pages_set (x ∷ es) (suc i) e n old new zero = old zero
 pages_set (x ∷ es) (suc i) e n old new (suc k) = pages_set es i e n (λ j. old (suc j)) new k
 
-lacks_none : (e : Option Translation) (q : ℕ) → e ≡ None → Lacks e q
-lacks_none None q h = tt
-lacks_none (Some t) q h = grind arith
-
-lacks_other : (e : Option Translation) (t : Translation) (q : ℕ) → e ≡ Some t → t.page ≢ q → Lacks e q
-lacks_other None t q h ne = tt
-lacks_other (Some s) t q h ne = grind arith
+-- the entry that stands is the one that is found
+pub here_hit : {p i : ℕ} {es : List (Option Translation)} (s : Stands p i es) → once es ≡ true → own es p ≡ Some s.entry.frame
+here_hit {p} {i} {es} s single =
+    let h = held_own es i s.entry single s.at in
+    let is = s.is in
+    grind arith
 
 -- where the one entry of a page is out, no other has it
-pub alone_hit : (es : List (Option Translation)) (i : ℕ) (t : Translation) (p : ℕ) → once es ≡ true → get_or es i None ≡ Some t → t.page ≡ p → own (set es i None) p ≡ None
-alone_hit es i t p single at is = let h = left_none es i None t single at tt in grind arith
+pub alone_hit : {p i : ℕ} {es : List (Option Translation)} → Stands p i es → once es ≡ true → own (set es i None) p ≡ None
+alone_hit {p} {i} {es} s single =
+    let h = left_none es i None s.entry single s.at tt in
+    let is = s.is in
+    grind arith
 
-pub others_hit : (es : List (Option Translation)) (i : ℕ) (t : Translation) (p : ℕ) (e : Option Translation) (q : ℕ) → get_or es i None ≡ Some t → t.page ≡ p → q ≢ p → Lacks e q → own (set es i e) q ≡ own es q
-others_hit es i t p e q at is ne new = others_own es i e q (lacks_other (get_or es i None) t q at (grind arith)) new
+pub others_hit : {p i : ℕ} {es : List (Option Translation)} → Stands p i es → (e : Option Translation) (q : ℕ) → q ≢ p → Lacks e q → own (set es i e) q ≡ own es q
+others_hit {p} {i} {es} s e q ne new =
+    let is = s.is in
+    others_own es i e q (simp s.at (grind arith)) new
 
 displaces_by : (es : List (Option Translation)) (i : ℕ) (u : Translation) (e : Option Translation) → once es ≡ true → own es u.page ≡ None → get_or es i None ≡ e → Displaces u.page e es (set es i (Some u))
-displaces_by es i u None single alone at = λ q ne. others_own es i (Some u) q (lacks_none (get_or es i None) q at) (grind arith)
+displaces_by es i u None single alone at = λ q ne. others_own es i (Some u) q (simp at tt) (grind arith)
 displaces_by es i u (Some t) single alone at =
     let here = held_own es i t single at in
     let apart : t.page ≢ u.page = grind arith in
-    (apart, here, left_none es i (Some u) t single at (grind arith), λ q ne nt. others_own es i (Some u) q (lacks_other (get_or es i None) t q at (grind arith)) (grind arith))
+    (apart, here, left_none es i (Some u) t single at (grind arith), λ q ne nt. others_own es i (Some u) q (simp at (grind arith)) (grind arith))
 
 -- what a newcomer displaces
 pub displaces : (es : List (Option Translation)) (i : ℕ) (u : Translation) → once es ≡ true → own es u.page ≡ None → Displaces u.page (get_or es i None) es (set es i (Some u))
 displaces es i u single alone = displaces_by es i u (get_or es i None) single alone refl
 
-has_by : (e : Option Translation) (t : Translation) (p : ℕ) → e ≡ Some t → t.page ≡ p → Has e p
-has_by None t p at is = grind arith
-has_by (Some s) t p at is = grind arith
-
-own_some : (o : Option ℕ) (f : ℕ) (P : Type 0) (Q : Type 0) → o ≡ Some f → Q → MatchOption o P (λ _. Q)
-own_some None f P Q h q = grind arith
-own_some (Some g) f P Q h q = q
-
--- the entry of the page is at i, and is written with x
-rewritten : (es : List (Option Translation)) (i : ℕ) (t : Translation) (p : ℕ) (x : Option Translation) → i < 8 → get_or es i None ≡ Some t → t.page ≡ p → Rewritten p x es (set es i x)
-rewritten es i t p x within at is = record { at = i; within = within; was = has_by (get_or es i None) t p at is; writes = refl }
+-- its slot is written with x
+rewritten : {p i : ℕ} {es : List (Option Translation)} → Stands p i es → (x : Option Translation) → Rewritten p x es (set es i x)
+rewritten {p} {i} {es} s x = record { at = i; within = s.within; was = simp s.at s.is; writes = refl }
 
 -- a page that has an entry is replaced in place
-pub replaced : (es : List (Option Translation)) (i : ℕ) (t : Translation) (p f turn : ℕ) → once es ≡ true → i < 8 → get_or es i None ≡ Some t → t.page ≡ p →
-    Taken (record { page = p; frame = f }) None es (set es i (Some (record { page = p; frame = f }))) turn turn
-replaced es i t p f turn single within at is =
-    let here = held_own es i t single at in
-    own_some (own es p) t.frame _ _ (grind arith) (record { place = rewritten es i t p (Some (record { page = p; frame = f })) within at is; stays = refl; nothing = refl })
+pub replaced : (u : Translation) {i : ℕ} {es : List (Option Translation)} → Stands u.page i es → (turn : ℕ) → once es ≡ true → Taken u None es (set es i (Some u)) turn turn
+replaced u {i} {es} s turn single = simp (here_hit s single) (record { place = rewritten s (Some u); stays = refl; nothing = refl })
 
 -- a page that has an entry is emptied there
-pub vacated : (es : List (Option Translation)) (i : ℕ) (t : Translation) (p : ℕ) → once es ≡ true → i < 8 → get_or es i None ≡ Some t → t.page ≡ p → Vacated p es (set es i None)
-vacated es i t p single within at is =
-    let here = held_own es i t single at in
-    own_some (own es p) t.frame _ _ (grind arith) (rewritten es i t p None within at is)
+pub vacated : {p i : ℕ} {es : List (Option Translation)} → Stands p i es → once es ≡ true → Vacated p es (set es i None)
+vacated {p} {i} {es} s single = simp (here_hit s single) (rewritten s None)

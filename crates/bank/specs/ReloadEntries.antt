@@ -1,5 +1,5 @@
 -- The entries of one core in the reload buffer, and what exactly an operation makes of them.
-use Rattle.std.specs.Prelude.{◌≡◌, ℕ, ◌+◌, ◌%◌, ◌<◌, Bool, true, cond, not, ◌&&◌, ◌≢◌, List, [], ◌∷◌, is_some, Some, None, Option, MatchOption, ◌==◌, slice_index_or, slice_set}
+use Rattle.std.specs.Prelude.{◌≡◌, ℕ, ◌+◌, ◌%◌, ◌<◌, Bool, true, false, cond, not, ◌&&◌, ◌≢◌, List, [], ◌∷◌, is_some, Some, None, Option, MatchOption, ◌==◌, slice_index_or, slice_set}
 use Rattle.bank.specs.declared.translation.Translation.{Translation}
 
 -- the frame that the entries have for a page
@@ -19,6 +19,11 @@ abbrev pub paged : Option Translation → ℕ
 paged None = 0
 paged (Some e) = e.page
 
+-- whether a slot has the page
+abbrev pub has_page : ℕ → Option Translation → Bool
+has_page p None = false
+has_page p (Some e) = e.page == p
+
 -- the slot has the page
 abbrev pub Has : Option Translation → ℕ → Type 0
 Has None p = ⊥
@@ -28,10 +33,6 @@ Has (Some e) p = e.page ≡ p
 abbrev pub Lacks : Option Translation → ℕ → Type 0
 Lacks None p = Unit {0}
 Lacks (Some e) p = e.page ≢ p
-
--- r is the place of the page's entry among the eight, or no entry has the page
-abbrev pub Located : ℕ → List (Option Translation) → Option ℕ → Type 0
-Located p es r = MatchOption r (own es p ≡ None) (λ i. (i < 8) × ((e : Translation) × (slice_index_or es i None ≡ Some e) × (e.page ≡ p)))
 
 -- the slot of the page, one of eight, is written with x, and all others stay
 pub record Rewritten (p : ℕ) (x : Option Translation) (old new : List (Option Translation)) : Type 0 where

@@ -47,10 +47,7 @@ impl<B: Bank> Bank for ReloadBuffer<B> {
     }
 
     fn show(&self, pair: Pair) -> Option<Frame> {
-        match self.own.frame_of(pair) {
-            Some(frame) => Some(frame),
-            None => self.below.show(pair),
-        }
+        self.own.frame_of(pair).or_else(|| self.below.show(pair))
     }
 
     fn clear(&mut self) {

@@ -37,7 +37,11 @@ impl ReloadRows {
         ensures rest { Displaced pair.core pair.page result (held self.old.rows) (held self.new.rows) }
         ensures exact { Took pair.core (record { page = pair.page; frame = frame }) result self.old.rows self.new.rows }
     {
-        self.rows[pair.core as usize].take(pair.page, frame)
+        let newcomer = Translation {
+            page: pair.page,
+            frame,
+        };
+        self.rows[pair.core as usize].take(newcomer)
     }
 
     /// Empties the entry with the page at the core's row, if there is one.

@@ -38,32 +38,21 @@ pub fn install_twice_and_drop<B: Bank>(
     }
 }
 
-/// At the page tables.
-pub fn at_page_tables(page: Page) -> Shown
+/// At the page tables, at the inverted table, and at a reload buffer over a reload buffer over that.
+pub fn at_each_bank(page: Page) -> (Shown, Shown, Shown)
     requires { page < 262144 }
-    ensures { result.replaced ≡ Some 9 }
+    ensures page_tables { result.0.replaced ≡ Some 9 }
+    ensures inverted_table { result.1.replaced ≡ Some 9 }
+    ensures two_buffers { result.2.replaced ≡ Some 9 }
 {
-    install_twice_and_drop(&mut PageTables::new(), Pair::new(3, page), 7, 9)
-}
-
-/// At the inverted table.
-pub fn at_inverted_table(page: Page) -> Shown
-    requires { page < 262144 }
-    ensures { result.replaced ≡ Some 9 }
-{
-    install_twice_and_drop(&mut InvertedTable::new(), Pair::new(3, page), 7, 9)
-}
-
-/// At a reload buffer over a reload buffer over the inverted table.
-pub fn at_two_buffers(page: Page) -> Shown
-    requires { page < 262144 }
-    ensures { result.replaced ≡ Some 9 }
-{
-    install_twice_and_drop(
-        &mut ReloadBuffer::new(ReloadBuffer::new(InvertedTable::new())),
-        Pair::new(3, page),
-        7,
-        9,
+    let pair = Pair::new(3, page);
+    let mut tables = PageTables::new();
+    let mut inverted = InvertedTable::new();
+    let mut buffers = ReloadBuffer::new(ReloadBuffer::new(InvertedTable::new()));
+    (
+        install_twice_and_drop(&mut tables, pair, 7, 9),
+        install_twice_and_drop(&mut inverted, pair, 7, 9),
+        install_twice_and_drop(&mut buffers, pair, 7, 9),
     )
 }
 
