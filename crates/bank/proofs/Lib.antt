@@ -1,4 +1,2 @@
-mod Tables
-mod Layouts
 mod ReloadFound
 mod ReloadEach

@@ -1,11 +1,11 @@
-use Rattle.std.proofs.Common.{◌≡◌, ℕ, zero, suc, ◌<◌, ◌≢◌, ◌⊎◌, List, [], ◌∷◌, length, get_or, set, replicate, Some, None, Option, refl, inl, inr, arith}
+use Rattle.std.proofs.Common.{◌≡◌, ℕ, zero, suc, ◌<◌, ◌≢◌, ◌⊎◌, List, [], ◌∷◌, length, get_or, set, Some, None, Option, refl, inl, inr, arith}
 use Rattle.std.proofs.lemmas.List.{get_or-map}
 use Rattle.std.proofs.lemmas.Bool.{cases_eq}
-use Rattle.bank.specs.Meaning.{Dropped, Empty}
-use Rattle.bank.specs.declared.reload_entry.ReloadEntry.{ReloadEntry}
+use Rattle.bank.specs.Meaning.{Dropped}
+use Rattle.bank.specs.declared.translation.Translation.{Translation}
 use Rattle.bank.specs.declared.reload_row.ReloadRow.{ReloadRow}
 use Rattle.bank.specs.ReloadEntries.{own, paged, Displaces}
-use Rattle.bank.specs.ReloadRows.{entries_of, turn_of, held, Bare, Displaced}
+use Rattle.bank.specs.ReloadRows.{entries_of, turn_of, held, Displaced}
 
 pub entries_same : (rows : List ReloadRow) (c : ℕ) (r : ReloadRow) → c < length rows → entries_of (set rows c r) c ≡ r.entries
 entries_same [] c r h = grind arith
@@ -27,7 +27,7 @@ pub turn_read : (rows : List ReloadRow) (c : ℕ) (d : ReloadRow) → c < length
 turn_read rows c d h = get_or-map (λ r. r.turn) rows c d 0 h
 
 -- what is kept of a row's pages is kept of the pairs
-kept : (rows : List ReloadRow) (c : ℕ) (es : List (Option ReloadEntry)) (r : ReloadRow) (P : ℕ → Type 0) → c < length rows → entries_of rows c ≡ es →
+kept : (rows : List ReloadRow) (c : ℕ) (es : List (Option Translation)) (r : ReloadRow) (P : ℕ → Type 0) → c < length rows → entries_of rows c ≡ es →
     ((q : ℕ) → P q → own r.entries q ≡ own es q) → (d q : ℕ) → (d ≡ c → P q) → (d ≡ c) ⊎ (d ≡ c → ⊥) → held (set rows c r) d q ≡ held rows d q
 kept rows c es r P h is was d q p (inl same) =
     let e = entries_same rows c r h in
@@ -35,7 +35,7 @@ kept rows c es r P h is was d q p (inl same) =
     grind arith
 kept rows c es r P h is was d q p (inr other) = let e = entries_other rows c r d other in grind arith
 
-pub dropped : (rows : List ReloadRow) (c p : ℕ) (es : List (Option ReloadEntry)) (r : ReloadRow) → c < length rows → entries_of rows c ≡ es →
+pub dropped : (rows : List ReloadRow) (c p : ℕ) (es : List (Option Translation)) (r : ReloadRow) → c < length rows → entries_of rows c ≡ es →
     own r.entries p ≡ None → ((q : ℕ) → q ≢ p → own r.entries q ≡ own es q) → Dropped c p (held rows) (held (set rows c r))
 dropped rows c p es r h is here was =
     let e = entries_same rows c r h in
@@ -44,7 +44,7 @@ dropped rows c p es r h is here was =
       rest = λ d q apart. kept rows c es r (λ q. q ≢ p) h is was d q apart (cases_eq d c);
     }
 
-pub displaced : (rows : List ReloadRow) (c p : ℕ) (es : List (Option ReloadEntry)) (r : ReloadRow) (out : Option ReloadEntry) → c < length rows → entries_of rows c ≡ es →
+pub displaced : (rows : List ReloadRow) (c p : ℕ) (es : List (Option Translation)) (r : ReloadRow) (out : Option Translation) → c < length rows → entries_of rows c ≡ es →
     Displaces p out es r.entries → paged out < 262144 → Displaced c p out (held rows) (held (set rows c r))
 displaced rows c p es r None h is was small = λ d q apart. kept rows c es r (λ q. q ≢ p) h is was d q apart (cases_eq d c)
 displaced rows c p es r (Some t) h is was small =
@@ -55,17 +55,3 @@ displaced rows c p es r (Some t) h is was small =
       (grind arith),
       λ d q apart more. kept rows c es r (λ q. (q ≢ p) × (q ≢ t.page)) h is (λ q a. was.3 q a.0 a.1) d q (λ same. (apart same, more same)) (cases_eq d c),
     )
-
--- empty entries have no frame for any page
-none_own : (n c p : ℕ) → own (get_or (replicate n (replicate 8 None)) c []) p ≡ None
-none_own zero c p = refl
-none_own (suc n) zero p = refl
-none_own (suc n) (suc c) p = none_own n c p
-
--- bare rows hold nothing
-pub bare_empty : (rows : List ReloadRow) → Bare rows → Empty (held rows)
-bare_empty rows bare d q = simp bare.entries (none_own 16 d q)
-
--- rows that were all made empty are bare
-pub bare_rows : (r : ReloadRow) → r.entries ≡ replicate 8 None → r.turn ≡ 0 → Bare (replicate 16 r)
-bare_rows r empty first = record { entries = simp empty; turns = simp first }

@@ -1,13 +1,12 @@
 -- The two layouts of tables.
 use Rattle.std.specs.Prelude.{◌+◌, ◌*◌, ◌%◌, ◌&&◌, ◌==◌}
-use Rattle.bank.specs.declared.page_tables.Translation.{Translation}
+use Rattle.bank.specs.declared.translation.Translation.{Translation}
 use Rattle.bank.specs.declared.inverted_table.Tagged.{Tagged}
 use Rattle.bank.specs.Tables.{Layout}
 
 -- 256 entries for each of 16 cores: the place tells the core
-abbrev pub per_core : Layout Translation
+abbrev pub per_core : Layout 4096 Translation
 per_core = record {
-  size = 4096;
   place = λ c p. c * 256 + p % 256;
   made = λ c p f. record { page = p; frame = f };
   is_of = λ e c p. (e.page == p);
@@ -15,9 +14,8 @@ per_core = record {
 }
 
 -- 256 entries for all cores together: the entry tells its core
-abbrev pub all_cores : Layout Tagged
+abbrev pub all_cores : Layout 256 Tagged
 all_cores = record {
-  size = 256;
   place = λ c p. (p + 16 * c) % 256;
   made = λ c p f. record { core = c; page = p; frame = f };
   is_of = λ e c p. (e.core == c) && (e.page == p);

@@ -3,12 +3,12 @@ use Rattle.std.specs.Prelude.{◌≡◌, ℕ, ◌<◌, ◌≢◌, List, [], map,
 use Rattle.std.specs.Option.{option_or}
 use Rattle.bank.specs.Meaning.{Apart, Operation}
 use Rattle.bank.specs.Meaning.Operation.{Install, DropPage, Clear}
-use Rattle.bank.specs.declared.reload_entry.ReloadEntry.{ReloadEntry}
+use Rattle.bank.specs.declared.translation.Translation.{Translation}
 use Rattle.bank.specs.declared.reload_row.ReloadRow.{ReloadRow}
 use Rattle.bank.specs.ReloadEntries.{own, Taken, Vacated}
 
 -- the entries of a core
-abbrev pub entries_of : List ReloadRow → ℕ → List (Option ReloadEntry)
+abbrev pub entries_of : List ReloadRow → ℕ → List (Option Translation)
 entries_of rows c = slice_index_or (map (λ r. r.entries) rows) c []
 
 -- the turn of a core
@@ -29,14 +29,14 @@ pub record Bare (rows : List ReloadRow) : Type 0 where
   pub turns : map (λ r. r.turn) rows ≡ replicate 16 0
 
 -- what becomes of the other pairs where (c, p) is taken in and out is displaced
-abbrev pub Displaced : ℕ → ℕ → Option ReloadEntry → (old new : ℕ → ℕ → Option ℕ) → Type 0
+abbrev pub Displaced : ℕ → ℕ → Option Translation → (old new : ℕ → ℕ → Option ℕ) → Type 0
 Displaced c p None old new = (d q : ℕ) → Apart c p d q → new d q ≡ old d q
 Displaced c p (Some e) old new =
     (e.page < 262144) × (e.page ≢ p) × (old c e.page ≡ Some e.frame) × (new c e.page ≡ None) ×
     ((d q : ℕ) → Apart c p d q → Apart c e.page d q → new d q ≡ old d q)
 
 -- exactly what taking e in makes of the rows: only the core's row changes
-pub record Took (c : ℕ) (e : ReloadEntry) (out : Option ReloadEntry) (old new : List ReloadRow) : Type 0 where
+pub record Took (c : ℕ) (e : Translation) (out : Option Translation) (old new : List ReloadRow) : Type 0 where
   pub row : ReloadRow
   pub writes : new ≡ slice_set old c row
   pub takes : Taken e out (entries_of old c) row.entries (turn_of old c) row.turn
@@ -49,8 +49,8 @@ pub record Vacates (c p : ℕ) (old new : List ReloadRow) : Type 0 where
   pub stays : row.turn ≡ turn_of old c
 
 -- install: the rows take e in, and what they displace is installed below, else the bank below is as it was
-pub record Reloads (B : Type 0) (steps : B → Operation → B → Type 0) (c : ℕ) (e : ReloadEntry) (old new : List ReloadRow) (below under : B) : Type 0 where
-  pub out : Option ReloadEntry
+pub record Reloads (B : Type 0) (steps : B → Operation → B → Type 0) (c : ℕ) (e : Translation) (old new : List ReloadRow) (below under : B) : Type 0 where
+  pub out : Option Translation
   pub takes : Took c e out old new
   pub down : MatchOption out (under ≡ below) (λ d. steps below (Install c d.page d.frame) under)
 

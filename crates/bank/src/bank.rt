@@ -1,8 +1,9 @@
-ghost use Rattle.std.specs.Prelude.{◌≡◌, ℕ, ◌<◌, ◌≤◌, Option};
+ghost use Rattle.std.specs.Prelude.{◌≡◌, ℕ, Option};
 ghost use Rattle.bank.specs.Meaning.{Installed, Dropped, Empty, Operation};
 ghost use Rattle.bank.specs.Meaning.Operation.{Install, DropPage, Clear};
 
-use model::page::{Core, Frame, Page};
+use super::pair::Pair;
+use model::page::Frame;
 
 /// A bank of translations.
 pub trait Bank {
@@ -12,24 +13,18 @@ pub trait Bank {
     ghost steps: { Self → Operation → Self → Type 0 };
 
     /// The pair shows the frame; every other pair is as before or gone.
-    fn install(&mut self, core: Core, page: Page, frame: Frame)
-        requires core { core < 16 }
-        requires page { page < 262144 }
-        ensures means { Installed core page frame (shows self.old) (shows self.new) }
-        ensures exact { steps self.old (Install core page frame) self.new };
+    fn install(&mut self, pair: Pair, frame: Frame)
+        ensures means { Installed pair.core pair.page frame (shows self.old) (shows self.new) }
+        ensures exact { steps self.old (Install pair.core pair.page frame) self.new };
 
     /// The pair is gone; every other pair is as before.
-    fn drop_page(&mut self, core: Core, page: Page)
-        requires core { core < 16 }
-        requires page { page < 262144 }
-        ensures means { Dropped core page (shows self.old) (shows self.new) }
-        ensures exact { steps self.old (DropPage core page) self.new };
+    fn drop_page(&mut self, pair: Pair)
+        ensures means { Dropped pair.core pair.page (shows self.old) (shows self.new) }
+        ensures exact { steps self.old (DropPage pair.core pair.page) self.new };
 
     /// The frame of the pair.
-    fn show(&self, core: Core, page: Page) -> Option<Frame>
-        requires core { core < 16 }
-        requires page { page < 262144 }
-        ensures { result ≡ shows self.now core page };
+    fn show(&self, pair: Pair) -> Option<Frame>
+        ensures { result ≡ shows self.now pair.core pair.page };
 
     /// Every pair is gone.
     fn clear(&mut self)

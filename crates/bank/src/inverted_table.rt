@@ -1,10 +1,14 @@
-ghost use Rattle.std.specs.Prelude.{◌≡◌, ◌<◌};
-ghost use Rattle.bank.specs.Meaning.{Empty};
-ghost use Rattle.bank.specs.Tables.{shown, Stepped, Vacant};
+ghost use Rattle.std.specs.Prelude.{◌≡◌, ℕ};
 ghost use Rattle.bank.specs.Layouts.{all_cores};
+ghost use Rattle.std.proofs.Common.{refl, arith};
+ghost use Rattle.std.proofs.lemmas.Bool.Decides.{nat_tests};
 
-use super::bank::Bank;
+use super::pair::Pair;
+use super::table::{Occupant, Table};
 use model::page::{Core, Frame, Page};
+
+/// One table of 256 entries for all cores together.
+pub type InvertedTable = Table<Tagged, 256>;
 
 /// A page with its frame on the core that it names: the pages of several cores share an entry.
 #[derive(Clone, Copy)]
@@ -14,62 +18,34 @@ pub struct Tagged {
     pub frame: Frame,
 }
 
-/// One table of 256 entries for all cores together.
-#[derive(Drop)]
-pub struct InvertedTable {
-    entries: [Option<Tagged>; 256],
-}
+impl Occupant<256> for Tagged {
+    ghost layout = { all_cores };
 
-/// The only entry that may hold the pair; cores are 16 entries apart, so that one page does not meet itself.
-fn place(core: Core, page: Page) -> usize
-    requires core { core < 16 }
-    requires page { page < 262144 }
-    ensures { result ≡ all_cores.place core page }
-{
-    (page as usize + 16 * core as usize) % 256
-}
+    // It names both, so the place tells nothing.
+    ghost lawful = { record {
+      own = λ c p f. Prim.grind (arith, nat_tests);
+      frame = λ c p f. refl;
+      alone = λ e c p d q is same apart. Prim.grind (arith, nat_tests);
+    } };
 
-impl InvertedTable {
-    /// Every entry is empty.
-    pub fn new() -> InvertedTable
-        ensures means { Empty (shown all_cores result.entries) }
-        ensures exact { Vacant all_cores result.entries }
-    {
-        InvertedTable {
-            entries: [None; 256],
-        }
-    }
-}
-
-impl Bank for InvertedTable {
-    ghost shows = { λ t. shown all_cores t.entries };
-
-    ghost steps = { λ old o new. Stepped all_cores old.entries o new.entries };
-
-    // The newcomer displaces the occupant.
-    fn install(&mut self, core: Core, page: Page, frame: Frame) {
-        self.entries[place(core, page)] = Some(Tagged { core, page, frame });
+    // Cores are 16 entries apart, so that one page does not meet itself.
+    fn place(pair: Pair) -> usize {
+        (pair.page as usize + 16 * pair.core as usize) % 256
     }
 
-    fn drop_page(&mut self, core: Core, page: Page) {
-        let at = place(core, page);
-        if let Some(t) = self.entries[at]
-            && t.core == core
-            && t.page == page
-        {
-            self.entries[at] = None;
+    fn new(pair: Pair, frame: Frame) -> Tagged {
+        Tagged {
+            core: pair.core,
+            page: pair.page,
+            frame,
         }
     }
 
-    fn show(&self, core: Core, page: Page) -> Option<Frame> {
-        let entry = self.entries[place(core, page)];
-        match entry {
-            Some(t) if t.core == core && t.page == page => Some(t.frame),
-            _ => None,
-        }
+    fn is_of(self, pair: Pair) -> bool {
+        self.core == pair.core && self.page == pair.page
     }
 
-    fn clear(&mut self) {
-        self.entries = [None; 256];
+    fn frame(self) -> Frame {
+        self.frame
     }
 }

@@ -4,7 +4,9 @@
 pub mod bank;
 pub mod inverted_table;
 pub mod page_tables;
+pub mod pair;
 pub mod reload;
-pub mod reload_entry;
-pub mod reload_row;
-pub mod reload_rows;
+mod reload_row;
+mod reload_rows;
+pub mod table;
+pub mod translation;

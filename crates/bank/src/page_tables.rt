@@ -1,72 +1,43 @@
-ghost use Rattle.std.specs.Prelude.{◌≡◌, ◌<◌};
-ghost use Rattle.bank.specs.Meaning.{Empty};
-ghost use Rattle.bank.specs.Tables.{shown, Stepped, Vacant};
+ghost use Rattle.std.specs.Prelude.{◌≡◌, ℕ};
 ghost use Rattle.bank.specs.Layouts.{per_core};
+ghost use Rattle.std.proofs.Common.{refl, arith};
+ghost use Rattle.std.proofs.lemmas.Bool.Decides.{nat_tests};
 
-use super::bank::Bank;
-use model::page::{Core, Frame, Page};
-
-/// A page with its frame. It need not name its core: each core has entries of its own.
-#[derive(Clone, Copy)]
-pub struct Translation {
-    pub page: Page,
-    pub frame: Frame,
-}
+use super::pair::Pair;
+use super::table::{Occupant, Table};
+use super::translation::Translation;
+use model::page::Frame;
 
 /// Page tables: 256 entries for each of 16 cores, one core after another.
-#[derive(Drop)]
-pub struct PageTables {
-    entries: [Option<Translation>; 4096],
-}
+pub type PageTables = Table<Translation, 4096>;
 
-/// The only entry that may hold the pair.
-fn place(core: Core, page: Page) -> usize
-    requires { core < 16 }
-    ensures { result ≡ per_core.place core page }
-{
-    core as usize * 256 + page as usize % 256
-}
+// A translation need not name its core: each core has entries of its own.
+impl Occupant<4096> for Translation {
+    ghost layout = { per_core };
 
-impl PageTables {
-    /// Every entry is empty.
-    pub fn new() -> PageTables
-        ensures means { Empty (shown per_core result.entries) }
-        ensures exact { Vacant per_core result.entries }
-    {
-        PageTables {
-            entries: [None; 4096],
-        }
-    }
-}
+    // The same page at the same place is on the same core.
+    ghost lawful = { record {
+      own = λ c p f. Prim.grind (arith, nat_tests);
+      frame = λ c p f. refl;
+      alone = λ e c p d q is same apart. Prim.grind (arith, nat_tests);
+    } };
 
-impl Bank for PageTables {
-    ghost shows = { λ t. shown per_core t.entries };
-
-    ghost steps = { λ old o new. Stepped per_core old.entries o new.entries };
-
-    // The newcomer displaces the occupant.
-    fn install(&mut self, core: Core, page: Page, frame: Frame) {
-        self.entries[place(core, page)] = Some(Translation { page, frame });
+    fn place(pair: Pair) -> usize {
+        pair.core as usize * 256 + pair.page as usize % 256
     }
 
-    fn drop_page(&mut self, core: Core, page: Page) {
-        let at = place(core, page);
-        if let Some(t) = self.entries[at]
-            && t.page == page
-        {
-            self.entries[at] = None;
+    fn new(pair: Pair, frame: Frame) -> Translation {
+        Translation {
+            page: pair.page,
+            frame,
         }
     }
 
-    fn show(&self, core: Core, page: Page) -> Option<Frame> {
-        let entry = self.entries[place(core, page)];
-        match entry {
-            Some(t) if t.page == page => Some(t.frame),
-            _ => None,
-        }
+    fn is_of(self, pair: Pair) -> bool {
+        self.page == pair.page
     }
 
-    fn clear(&mut self) {
-        self.entries = [None; 4096];
+    fn frame(self) -> Frame {
+        self.frame
     }
 }

@@ -2,8 +2,9 @@ ghost use Rattle.std.specs.Prelude.{◌≡◌, ℕ};
 ghost use Rattle.bank.specs.ReloadRows.{held, over, Bare, Steps};
 
 use super::bank::Bank;
+use super::pair::Pair;
 use super::reload_rows::ReloadRows;
-use model::page::{Core, Frame, Page};
+use model::page::Frame;
 
 /// Eight entries for each core over any bank, itself included.
 #[derive(Drop)]
@@ -31,24 +32,22 @@ impl<B: Bank> Bank for ReloadBuffer<B> {
 
     ghost steps = { λ b o a. Steps B B.Bank.steps b.own.rows b.below o a.own.rows a.below };
 
-    fn install(&mut self, core: Core, page: Page, frame: Frame) {
+    fn install(&mut self, pair: Pair, frame: Frame) {
         // The own entry hides an older frame of the page below; only what leaves the buffer goes down.
-        if let Some(displaced) = self.own.take(core, page, frame) {
-            self.below.install(core, displaced.page, displaced.frame);
+        if let Some(displaced) = self.own.take(pair, frame) {
+            let leaves = Pair::new(pair.core, displaced.page);
+            self.below.install(leaves, displaced.frame);
         }
     }
 
-    fn drop_page(&mut self, core: Core, page: Page) {
-        self.own.vacate(core, page);
+    fn drop_page(&mut self, pair: Pair) {
+        self.own.vacate(pair);
         // An older frame of the page may still be below.
-        self.below.drop_page(core, page);
+        self.below.drop_page(pair);
     }
 
-    fn show(&self, core: Core, page: Page) -> Option<Frame> {
-        match self.own.frame_of(core, page) {
-            Some(frame) => Some(frame),
-            None => self.below.show(core, page),
-        }
+    fn show(&self, pair: Pair) -> Option<Frame> {
+        self.own.frame_of(pair).or_else(|| self.below.show(pair))
     }
 
     fn clear(&mut self) {

@@ -1,16 +1,16 @@
 ghost use Rattle.std.specs.Prelude.{◌≡◌, ℕ, ◌<◌, true, length, replicate, Some, None, slice_index_or};
-ghost use Rattle.bank.specs.ReloadEntries.{own, once, paged, Located, Taken, Vacated, Displaces};
+ghost use Rattle.std.specs.List.{position};
+ghost use Rattle.bank.specs.ReloadEntries.{own, once, paged, has_page, Taken, Vacated, Displaces};
 
-use super::reload_entry::ReloadEntry;
+use super::translation::Translation;
 use model::page::{Frame, Page};
 
 /// The entries of one core, which newcomers take in turn.
 #[derive(Clone, Copy)]
 pub struct ReloadRow {
-    entries: [Option<ReloadEntry>; 8],
+    entries: [Option<Translation>; 8],
     /// The entry that the next newcomer takes.
     turn: u8,
-    ghost full: { length entries ≡ 8 },
     ghost within: { turn < 8 },
     ghost single: { once entries ≡ true },
     // What is displaced goes to a bank that takes only such pages.
@@ -33,47 +33,34 @@ impl ReloadRow {
     pub fn frame_of(&self, page: Page) -> Option<Frame>
         ensures { result ≡ own self.now.entries page }
     {
-        for slot in &self.entries {
-            if let Some(entry) = *slot
-                && entry.page == page
-            {
-                return Some(entry.frame);
-            }
-        }
-        None
+        self.entries[self.place_of(page)?].map(|entry| entry.frame)
     }
 
     /// The place of the entry with the page.
     fn place_of(&self, page: Page) -> Option<usize>
-        ensures { Located page self.now.entries result }
+        ensures { result ≡ position (has_page page) self.now.entries }
     {
-        for (i, slot) in self.entries.iter().enumerate() {
-            if let Some(entry) = *slot
-                && entry.page == page
-            {
-                return Some(i);
-            }
-        }
-        None
+        self.entries
+            .iter()
+            .position(|slot| slot.is_some_and(|entry| entry.page == page))
     }
 
-    /// Takes the page in with its frame, and answers what it displaced.
-    pub fn take(&mut self, page: Page, frame: Frame) -> Option<ReloadEntry>
-        requires { page < 262144 }
-        ensures here { own self.new.entries page ≡ Some frame }
-        ensures rest { Displaces page result self.old.entries self.new.entries }
+    /// Takes a newcomer in, and answers what it displaced.
+    pub fn take(&mut self, newcomer: Translation) -> Option<Translation>
+        requires { newcomer.page < 262144 }
+        ensures here { own self.new.entries newcomer.page ≡ Some newcomer.frame }
+        ensures rest { Displaces newcomer.page result self.old.entries self.new.entries }
         ensures inside { paged result < 262144 }
-        ensures exact { Taken (record { page = page; frame = frame }) result self.old.entries self.new.entries self.old.turn self.new.turn }
+        ensures exact { Taken newcomer result self.old.entries self.new.entries self.old.turn self.new.turn }
     {
-        match self.place_of(page) {
+        match self.place_of(newcomer.page) {
             Some(i) => {
-                self.entries[i] = Some(ReloadEntry { page, frame });
+                self.entries[i] = Some(newcomer);
                 None
             }
             None => {
-                let slot = self.turn as usize;
-                let displaced = self.entries[slot];
-                self.entries[slot] = Some(ReloadEntry { page, frame });
+                let slot = &mut self.entries[self.turn as usize];
+                let displaced = slot.replace(newcomer);
                 self.turn = (self.turn + 1) % 8;
                 displaced
             }

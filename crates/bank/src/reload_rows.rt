@@ -1,10 +1,11 @@
-ghost use Rattle.std.specs.Prelude.{◌≡◌, ℕ, ◌<◌, Some, None};
+ghost use Rattle.std.specs.Prelude.{◌≡◌, ℕ, Some, None};
 ghost use Rattle.bank.specs.Meaning.{Dropped, Empty};
 ghost use Rattle.bank.specs.ReloadRows.{held, Bare, Displaced, Took, Vacates};
 
-use super::reload_entry::ReloadEntry;
+use super::pair::Pair;
 use super::reload_row::ReloadRow;
-use model::page::{Core, Frame, Page};
+use super::translation::Translation;
+use model::page::Frame;
 
 /// A row for each core.
 #[derive(Drop)]
@@ -24,30 +25,30 @@ impl ReloadRows {
     }
 
     /// The frame that the core's own row has for the page.
-    pub fn frame_of(&self, core: Core, page: Page) -> Option<Frame>
-        requires { core < 16 }
-        ensures { result ≡ held self.now.rows core page }
+    pub fn frame_of(&self, pair: Pair) -> Option<Frame>
+        ensures { result ≡ held self.now.rows pair.core pair.page }
     {
-        self.rows[core as usize].frame_of(page)
+        self.rows[pair.core as usize].frame_of(pair.page)
     }
 
     /// Takes the page in at the core's row, and answers what it displaced.
-    pub fn take(&mut self, core: Core, page: Page, frame: Frame) -> Option<ReloadEntry>
-        requires core { core < 16 }
-        requires page { page < 262144 }
-        ensures here { held self.new.rows core page ≡ Some frame }
-        ensures rest { Displaced core page result (held self.old.rows) (held self.new.rows) }
-        ensures exact { Took core (record { page = page; frame = frame }) result self.old.rows self.new.rows }
+    pub fn take(&mut self, pair: Pair, frame: Frame) -> Option<Translation>
+        ensures here { held self.new.rows pair.core pair.page ≡ Some frame }
+        ensures rest { Displaced pair.core pair.page result (held self.old.rows) (held self.new.rows) }
+        ensures exact { Took pair.core (record { page = pair.page; frame = frame }) result self.old.rows self.new.rows }
     {
-        self.rows[core as usize].take(page, frame)
+        let newcomer = Translation {
+            page: pair.page,
+            frame,
+        };
+        self.rows[pair.core as usize].take(newcomer)
     }
 
     /// Empties the entry with the page at the core's row, if there is one.
-    pub fn vacate(&mut self, core: Core, page: Page)
-        requires { core < 16 }
-        ensures means { Dropped core page (held self.old.rows) (held self.new.rows) }
-        ensures exact { Vacates core page self.old.rows self.new.rows }
+    pub fn vacate(&mut self, pair: Pair)
+        ensures means { Dropped pair.core pair.page (held self.old.rows) (held self.new.rows) }
+        ensures exact { Vacates pair.core pair.page self.old.rows self.new.rows }
     {
-        self.rows[core as usize].vacate(page);
+        self.rows[pair.core as usize].vacate(pair.page);
     }
 }

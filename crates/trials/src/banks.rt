@@ -3,8 +3,9 @@ ghost use Rattle.std.specs.Prelude.{◌≡◌, ◌<◌, Some, None};
 use bank::bank::Bank;
 use bank::inverted_table::InvertedTable;
 use bank::page_tables::PageTables;
+use bank::pair::Pair;
 use bank::reload::ReloadBuffer;
-use model::page::{Core, Frame, Page};
+use model::page::{Frame, Page};
 
 /// What a bank shows at three moments.
 #[derive(Clone, Copy, PartialEq, Eq, Debug)]
@@ -17,56 +18,41 @@ pub struct Shown {
 /// Installs a frame for a pair, then another, then drops the pair: proved of any bank from its meaning alone.
 pub fn install_twice_and_drop<B: Bank>(
     bank: &mut B,
-    core: Core,
-    page: Page,
+    pair: Pair,
     first: Frame,
     second: Frame,
 ) -> Shown
-    requires core { core < 16 }
-    requires page { page < 262144 }
     ensures installed { result.installed ≡ Some first }
     ensures replaced { result.replaced ≡ Some second }
     ensures dropped { result.dropped ≡ None }
 {
-    bank.install(core, page, first);
-    let installed = bank.show(core, page);
-    bank.install(core, page, second);
-    let replaced = bank.show(core, page);
-    bank.drop_page(core, page);
+    bank.install(pair, first);
+    let installed = bank.show(pair);
+    bank.install(pair, second);
+    let replaced = bank.show(pair);
+    bank.drop_page(pair);
     Shown {
         installed,
         replaced,
-        dropped: bank.show(core, page),
+        dropped: bank.show(pair),
     }
 }
 
-/// At the page tables.
-pub fn at_page_tables(page: Page) -> Shown
+/// At the page tables, at the inverted table, and at a reload buffer over a reload buffer over that.
+pub fn at_each_bank(page: Page) -> (Shown, Shown, Shown)
     requires { page < 262144 }
-    ensures { result.replaced ≡ Some 9 }
+    ensures page_tables { result.0.replaced ≡ Some 9 }
+    ensures inverted_table { result.1.replaced ≡ Some 9 }
+    ensures two_buffers { result.2.replaced ≡ Some 9 }
 {
-    install_twice_and_drop(&mut PageTables::new(), 3, page, 7, 9)
-}
-
-/// At the inverted table.
-pub fn at_inverted_table(page: Page) -> Shown
-    requires { page < 262144 }
-    ensures { result.replaced ≡ Some 9 }
-{
-    install_twice_and_drop(&mut InvertedTable::new(), 3, page, 7, 9)
-}
-
-/// At a reload buffer over a reload buffer over the inverted table.
-pub fn at_two_buffers(page: Page) -> Shown
-    requires { page < 262144 }
-    ensures { result.replaced ≡ Some 9 }
-{
-    install_twice_and_drop(
-        &mut ReloadBuffer::new(ReloadBuffer::new(InvertedTable::new())),
-        3,
-        page,
-        7,
-        9,
+    let pair = Pair::new(3, page);
+    let mut tables = PageTables::new();
+    let mut inverted = InvertedTable::new();
+    let mut buffers = ReloadBuffer::new(ReloadBuffer::new(InvertedTable::new()));
+    (
+        install_twice_and_drop(&mut tables, pair, 7, 9),
+        install_twice_and_drop(&mut inverted, pair, 7, 9),
+        install_twice_and_drop(&mut buffers, pair, 7, 9),
     )
 }
 
@@ -77,7 +63,7 @@ mod tests {
     // Ten pages of core 2, 256 apart, so that they meet in one entry of a table; then what each shows.
     fn fill<B: Bank>(bank: &mut B) {
         for i in 0..10 {
-            bank.install(2, 5 + 256 * i, 100 + i as u16);
+            bank.install(Pair::new(2, 5 + 256 * i), 100 + i as u16);
         }
     }
 
@@ -85,23 +71,23 @@ mod tests {
     fn a_newcomer_displaces_the_occupant(rt: HostRuntime) {
         let mut tables = PageTables::new();
         fill(&mut tables);
-        assert_eq!(rt; tables.show(2, 5 + 256 * 9), Some(109));
-        assert_eq!(rt; tables.show(2, 5 + 256 * 8), None);
-        tables.drop_page(2, 5);
+        assert_eq!(rt; tables.show(Pair::new(2, 5 + 256 * 9)), Some(109));
+        assert_eq!(rt; tables.show(Pair::new(2, 5 + 256 * 8)), None);
+        tables.drop_page(Pair::new(2, 5));
         assert_eq!(rt;
-            tables.show(2, 5 + 256 * 9),
+            tables.show(Pair::new(2, 5 + 256 * 9)),
             Some(109),
             "the entry has another page"
         );
         let mut inverted = InvertedTable::new();
         fill(&mut inverted);
-        inverted.install(1, 21 + 256 * 9, 55);
+        inverted.install(Pair::new(1, 21 + 256 * 9), 55);
         assert_eq!(rt;
-            inverted.show(2, 5 + 256 * 9),
+            inverted.show(Pair::new(2, 5 + 256 * 9)),
             None,
             "another core's page has the entry"
         );
-        assert_eq!(rt; inverted.show(1, 21 + 256 * 9), Some(55));
+        assert_eq!(rt; inverted.show(Pair::new(1, 21 + 256 * 9)), Some(55));
     }
 
     #[test]
@@ -109,16 +95,20 @@ mod tests {
         let mut bank = ReloadBuffer::new(PageTables::new());
         fill(&mut bank);
         assert_eq!(rt;
-            bank.show(2, 5),
+            bank.show(Pair::new(2, 5)),
             None,
             "displaced by the first, then below by the second"
         );
-        assert_eq!(rt; bank.show(2, 5 + 256), Some(101), "below");
-        assert_eq!(rt; bank.show(2, 5 + 256 * 2), Some(102), "in the buffer");
-        assert_eq!(rt; bank.show(2, 5 + 256 * 9), Some(109));
-        bank.drop_page(2, 5 + 256);
-        assert_eq!(rt; bank.show(2, 5 + 256), None);
+        assert_eq!(rt; bank.show(Pair::new(2, 5 + 256)), Some(101), "below");
+        assert_eq!(rt;
+            bank.show(Pair::new(2, 5 + 256 * 2)),
+            Some(102),
+            "in the buffer"
+        );
+        assert_eq!(rt; bank.show(Pair::new(2, 5 + 256 * 9)), Some(109));
+        bank.drop_page(Pair::new(2, 5 + 256));
+        assert_eq!(rt; bank.show(Pair::new(2, 5 + 256)), None);
         bank.clear();
-        assert_eq!(rt; bank.show(2, 5 + 256 * 9), None);
+        assert_eq!(rt; bank.show(Pair::new(2, 5 + 256 * 9)), None);
     }
 }

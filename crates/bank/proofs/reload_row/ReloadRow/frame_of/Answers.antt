@@ -1,22 +1,14 @@
-use Rattle.std.proofs.Common.{◌<◌, ◌≤◌, length, None, arith, rules}
-use Rattle.std.proofs.lemmas.List.{drop_more, drop_all}
-use Rattle.std.proofs.lemmas.Bool.Decides.{nat_tests}
+use Rattle.std.proofs.Common.{sym, ◌∙◌, arith, rules}
+use Rattle.bank.proofs.ReloadFound.{nowhere, found, here_hit}
 use Rattle.bank.proofs.reload_row.ReloadRow.frame_of.Goals as goal
 
-pub returns-in-loop-slot : goal.returns-in-loop-slot
-returns-in-loop-slot c =
-    let h : c.loop-slot.slot-index < length c.args.self.now.entries = search rules in
-    let e = drop_more c.args.self.now.entries c.loop-slot.slot-index None h in
-    grind (arith, nat_tests)
-
-pub loop-slot-preserved : goal.loop-slot-preserved
-loop-slot-preserved c =
-    let h : c.loop-slot.slot-index < length c.args.self.now.entries = search rules in
-    let e = drop_more c.args.self.now.entries c.loop-slot.slot-index None h in
-    grind (arith, nat_tests)
+pub returns-in_err-place_of : goal.returns-in_err-place_of
+returns-in_err-place_of c = c.from_residual.ensures ∙ sym (nowhere c.args.page c.args.self.now.entries c.in_err-place_of.ensures)
 
 pub returns : goal.returns
 returns c =
-    let h : length c.args.self.now.entries ≤ c.loop-slot.slot-index = search rules in
-    let e = drop_all c.loop-slot.slot-index c.args.self.now.entries h in
-    grind (arith, nat_tests)
+    let r = c.args.self.now in
+    let s = found c.args.page c.in_ok-place_of.field-0 r.entries (search rules) c.in_ok-place_of.ensures in
+    let here = here_hit s r.single in
+    let map = rw s.at at c.map.ensures.cases in
+    grind arith

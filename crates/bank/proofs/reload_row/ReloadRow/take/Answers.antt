@@ -1,16 +1,14 @@
 use Rattle.std.proofs.Common.{◌<◌, length, Some, None, refl, arith, rules}
-use Rattle.bank.specs.declared.reload_entry.ReloadEntry.{ReloadEntry}
-use Rattle.bank.proofs.ReloadFound.{once_set, pages_set, alone_hit, others_hit, here_own, none_stays, displaces, replaced}
+use Rattle.bank.proofs.ReloadFound.{nowhere, found, once_set, pages_set, alone_hit, others_hit, here_own, none_stays, displaces, replaced}
 use Rattle.bank.proofs.reload_row.ReloadRow.take.Goals as goal
 
 pub invariant_of-self : goal.invariant_of-self
 invariant_of-self c =
     let r = c.args.self.now in
-    let at = c.in-Some.ensures.1 in
-    let u : ReloadEntry = record { page = c.args.page; frame = c.args.frame } in
-    let alone = alone_hit r.entries c.in-Some.i at.0 c.args.page r.single at.1 at.2 in
+    let s = found c.args.newcomer.page c.in-Some.i r.entries (search rules) c.in-Some.ensures in
+    let u = c.args.newcomer in
+    let alone = alone_hit s r.single in
     record {
-      full = search rules;
       within = search rules;
       single = once_set r.entries c.in-Some.i u r.single alone;
       pages = pages_set r.entries c.in-Some.i (Some u) 262144 r.pages c.requires;
@@ -19,38 +17,40 @@ invariant_of-self c =
 pub invariant_of-self-in-None : goal.invariant_of-self-in-None
 invariant_of-self-in-None c =
     let r = c.args.self.now in
-    let u : ReloadEntry = record { page = c.args.page; frame = c.args.frame } in
-    let alone = none_stays r.entries r.turn None c.args.page c.in-None.ensures tt in
+    let u = c.args.newcomer in
+    let none = nowhere c.args.newcomer.page r.entries c.in-None.ensures in
+    let alone = none_stays r.entries r.turn None c.args.newcomer.page none tt in
+    let after = c.replace-displaced.ensures.after in
     record {
-      full = search rules;
       within = search rules;
-      single = once_set r.entries r.turn u r.single alone;
-      pages = pages_set r.entries r.turn (Some u) 262144 r.pages c.requires;
+      single = rw after (once_set r.entries r.turn u r.single alone);
+      pages = rw after (pages_set r.entries r.turn (Some u) 262144 r.pages c.requires);
     }
 
 pub returns-in-Some : goal.returns-in-Some
 returns-in-Some c =
     let r = c.args.self.now in
-    let at = c.in-Some.ensures.1 in
-    let u : ReloadEntry = record { page = c.args.page; frame = c.args.frame } in
-    let within : c.in-Some.i < length r.entries = omega (arith, c.in-Some.ensures.0) in
-    let alone = alone_hit r.entries c.in-Some.i at.0 c.args.page r.single at.1 at.2 in
+    let s = found c.args.newcomer.page c.in-Some.i r.entries (search rules) c.in-Some.ensures in
+    let u = c.args.newcomer in
+    let within : c.in-Some.i < length r.entries = omega (arith, s.within) in
+    let alone = alone_hit s r.single in
     record {
       here = here_own r.entries c.in-Some.i u within alone;
-      rest = λ q ne. others_hit r.entries c.in-Some.i at.0 c.args.page (Some u) q at.1 at.2 ne (grind arith);
+      rest = λ q ne. others_hit s (Some u) q ne (grind arith);
       inside = search rules;
-      exact = replaced r.entries c.in-Some.i at.0 c.args.page c.args.frame r.turn r.single c.in-Some.ensures.0 at.1 at.2;
+      exact = replaced u s r.turn r.single;
     }
 
 pub returns-in-None : goal.returns-in-None
 returns-in-None c =
     let r = c.args.self.now in
-    let u : ReloadEntry = record { page = c.args.page; frame = c.args.frame } in
+    let u = c.args.newcomer in
     let within : r.turn < length r.entries = omega arith in
-    let alone = none_stays r.entries r.turn None c.args.page c.in-None.ensures tt in
-    record {
+    let none = nowhere c.args.newcomer.page r.entries c.in-None.ensures in
+    let alone = none_stays r.entries r.turn None c.args.newcomer.page none tt in
+    rw (c.replace-displaced.ensures.value, c.replace-displaced.ensures.after) (record {
       here = here_own r.entries r.turn u within alone;
-      rest = displaces r.entries r.turn u r.single c.in-None.ensures;
+      rest = displaces r.entries r.turn u r.single none;
       inside = r.pages r.turn;
-      exact = simp c.in-None.ensures (record { writes = refl; goes_on = refl; displaced = refl });
-    }
+      exact = simp none (record { writes = refl; goes_on = refl; displaced = refl });
+    })

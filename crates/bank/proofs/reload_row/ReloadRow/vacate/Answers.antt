@@ -1,12 +1,11 @@
 use Rattle.std.proofs.Common.{None, refl, rules}
-use Rattle.bank.proofs.ReloadFound.{once_none, pages_set, alone_hit, others_hit, vacated}
+use Rattle.bank.proofs.ReloadFound.{once_none, pages_set, nowhere, found, alone_hit, others_hit, vacated}
 use Rattle.bank.proofs.reload_row.ReloadRow.vacate.Goals as goal
 
 pub invariant_of-self : goal.invariant_of-self
 invariant_of-self c =
     let r = c.args.self.now in
     record {
-      full = search rules;
       within = search rules;
       single = once_none r.entries c.in-Some.i r.single;
       pages = pages_set r.entries c.in-Some.i None 262144 r.pages (search rules);
@@ -14,11 +13,16 @@ invariant_of-self c =
 
 pub returns-in-Some : goal.returns-in-Some
 returns-in-Some c =
-    let es = c.args.self.now.entries in
-    let at = c.in-Some.ensures.1 in
+    let r = c.args.self.now in
+    let s = found c.args.page c.in-Some.i r.entries (search rules) c.in-Some.ensures in
     record {
-      here = alone_hit es c.in-Some.i at.0 c.args.page c.args.self.now.single at.1 at.2;
-      rest = λ q ne. others_hit es c.in-Some.i at.0 c.args.page None q at.1 at.2 ne tt;
+      here = alone_hit s r.single;
+      rest = λ q ne. others_hit s None q ne tt;
       turn = refl;
-      exact = vacated es c.in-Some.i at.0 c.args.page c.args.self.now.single c.in-Some.ensures.0 at.1 at.2;
+      exact = vacated s r.single;
     }
+
+pub returns-in_default : goal.returns-in_default
+returns-in_default c =
+    let none = nowhere c.args.page c.args.self.now.entries c.in_default.ensures in
+    record { here = none; rest = λ q ne. refl; turn = refl; exact = simp none refl }

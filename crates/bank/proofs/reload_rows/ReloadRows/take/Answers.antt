@@ -4,10 +4,10 @@ use Rattle.bank.proofs.reload_rows.ReloadRows.take.Goals as goal
 
 pub returns : goal.returns
 returns c =
-    let h : c.args.core < length c.args.self.now.rows = search rules in
-    let is = entries_read c.args.self.now.rows c.args.core c.index-self-core.result h in
-    let e = entries_same c.args.self.now.rows c.args.core c.take.new.self h in
-    let turn = turn_read c.args.self.now.rows c.args.core c.index-self-core.result h in
+    let h : c.args.pair.core < length c.args.self.now.rows = search rules in
+    let is = entries_read c.args.self.now.rows c.args.pair.core c.index-self-pair.result h in
+    let e = entries_same c.args.self.now.rows c.args.pair.core c.take.new.self h in
+    let turn = turn_read c.args.self.now.rows c.args.pair.core c.index-self-pair.result h in
     record {
       here = simp e c.take.ensures.here;
       rest = displaced _ _ _ _ c.take.new.self _ h is c.take.ensures.rest c.take.ensures.inside;

@@ -1,9 +1,0 @@
-use Rattle.std.proofs.Common.{◌<◌, length, arith, rules}
-use Rattle.bank.proofs.ReloadEach.{entries_read}
-use Rattle.bank.proofs.reload_rows.ReloadRows.frame_of.Goals as goal
-
-pub returns : goal.returns
-returns c =
-    let h : c.args.core < length c.args.self.now.rows = search rules in
-    let e = entries_read c.args.self.now.rows c.args.core c.index-self-core.result h in
-    grind arith
