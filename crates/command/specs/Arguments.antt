@@ -3,8 +3,6 @@ use Rattle.std.specs.Prelude.{ℕ, Bool, true, false, cond, not, ◌&&◌, ◌||
 use Rattle.std.specs.Str.{bytes_eq}
 use Rattle.command.specs.declared.options.Channel.{Channel}
 use Rattle.command.specs.declared.options.Channel.TheVariants.{Standard, File}
-use Rattle.command.specs.declared.options.Named.{Named}
-use Rattle.command.specs.declared.options.Named.TheVariants.{Neither, Script, Both}
 use Rattle.command.specs.declared.options.Options.{Options}
 use Rattle.command.specs.declared.options.Misuse.{Misuse}
 
@@ -22,6 +20,11 @@ pub record Wish : Type 0 where
 -- a hyphen alone is the standard channel
 abbrev pub place_named : List ℕ → Place
 place_named w = cond (bytes_eq w (codes "-")) standard (file w)
+
+-- a place as it is told, which is how it was named
+abbrev pub shown : Place → List ℕ
+shown standard = codes "-"
+shown (file w) = w
 
 -- a word that begins with two hyphens names no place
 abbrev pub is_flag : List ℕ → Bool
@@ -73,13 +76,13 @@ wish_read (Ok o) = Some (record { from = place_of o.script; to = answers_place o
 wish_read (Err e) = None
 
 -- the channels named so far, by their bytes
-abbrev pub places_of : Named → List Place
-places_of Neither = []
-places_of (Script c) = place_of c ∷ []
-places_of (Both c d) = place_of c ∷ (place_of d ∷ [])
+abbrev pub places_of : Option (Channel × Option Channel) → List Place
+places_of None = []
+places_of (Some (c, None)) = place_of c ∷ []
+places_of (Some (c, Some d)) = place_of c ∷ (place_of d ∷ [])
 
 -- the channels after one more; a refusal is none
-abbrev pub places_read : Result Named Misuse → Option (List Place)
+abbrev pub places_read : Result (Option (Channel × Option Channel)) Misuse → Option (List Place)
 places_read (Ok n) = Some (places_of n)
 places_read (Err e) = None
 

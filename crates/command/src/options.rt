@@ -1,7 +1,9 @@
-ghost use Rattle.std.specs.Prelude.{◌≡◌, map, string_bytes};
-ghost use Rattle.command.specs.Arguments.{is_flag, place_named, place_of, places_of, places_read, one_more, wish_for, wish_read, wished};
+ghost use Rattle.std.specs.Prelude.{◌≡◌, Some, map, string_bytes};
+ghost use Rattle.command.specs.Arguments.{is_flag, place_named, place_of, places_of, places_read, one_more, shown, wish_read, wished};
 
-/// Where bytes come from or go to.
+use std::fmt;
+
+/// Where bytes come from or go to. No Option of a name, since the standard one is a channel and not the lack of one.
 #[derive(Drop)]
 pub enum Channel {
     Standard,
@@ -21,19 +23,14 @@ pub struct Options {
 #[derive(Clone, Copy)]
 pub struct Misuse;
 
-// The channels named so far.
-#[derive(Drop)]
-enum Named {
-    Neither,
-    Script(Channel),
-    Both(Channel, Channel),
-}
+// The channels named so far: the script's first, then that for the answers.
+type Named = Option<(Channel, Option<Channel>)>;
 
-impl Channel {
-    /// The channel of a word: a hyphen alone is the standard one.
-    pub fn named(word: String) -> Channel
-        ensures { place_of result ≡ place_named (string_bytes word) }
-    {
+/// The channel of a word: a hyphen alone is the standard one.
+impl From<String> for Channel {
+    ghost from_gives = { λ w r. place_of r ≡ place_named (string_bytes w) };
+
+    fn from(word: String) -> Channel {
         if word.as_str() == "-" {
             return Channel::Standard;
         }
@@ -41,44 +38,26 @@ impl Channel {
     }
 }
 
-impl Named {
-    // The first channel is the script's, the second is for the answers, and there is no third.
-    fn with(self, channel: Channel) -> Result<Named, Misuse>
-        ensures { places_read result ≡ one_more (places_of self) (place_of channel) }
-    {
-        match self {
-            Named::Neither => Ok(Named::Script(channel)),
-            Named::Script(script) => Ok(Named::Both(script, channel)),
-            Named::Both(_, _) => Err(Misuse),
-        }
-    }
+impl fmt::Display for Channel {
+    ghost output = { λ c. Some (shown (place_of c)) };
 
-    // Without a script there is nothing to do.
-    fn options(self, brief: bool) -> Result<Options, Misuse>
-        ensures { wish_read result ≡ wish_for (places_of self) brief }
-    {
+    fn fmt<W: fmt::Write>(&self, f: &mut fmt::Formatter<W>) -> fmt::Result {
         match self {
-            Named::Neither => Err(Misuse),
-            Named::Script(script) => Ok(Options {
-                script,
-                answers: None,
-                brief,
-            }),
-            Named::Both(script, answers) => Ok(Options {
-                script,
-                answers: Some(answers),
-                brief,
-            }),
+            Channel::Standard => write!(f, "-"),
+            Channel::File(name) => write!(f, "{name}"),
         }
     }
 }
 
-impl Options {
-    /// Reads the words that the program is started with, its own name left out.
-    pub fn of(words: Vec<String>) -> Result<Options, Misuse>
-        ensures { wish_read result ≡ wished (map string_bytes words.items) }
-    {
-        let mut named = Named::Neither;
+/// Reads the words that the program is started with, its own name left out.
+impl TryFrom<Vec<String>> for Options {
+    type Error = Misuse;
+
+    ghost try_from_gives = { λ ws r. wish_read r ≡ wished (map string_bytes ws.items) };
+
+    #[tactic(auto, using(crate::proofs::Reading::words_read))]
+    fn try_from(words: Vec<String>) -> Result<Options, Misuse> {
+        let mut named = None;
         let mut brief = false;
         for word in words {
             if word.as_str() == "--brief" {
@@ -86,10 +65,27 @@ impl Options {
             } else if is_flag(word.as_str()) {
                 return Err(Misuse);
             } else {
-                named = named.with(Channel::named(word))?;
+                named = with(named, Channel::from(word))?;
             }
         }
-        named.options(brief)
+        // Without a script there is nothing to do.
+        let (script, answers) = named.ok_or(Misuse)?;
+        Ok(Options {
+            script,
+            answers,
+            brief,
+        })
+    }
+}
+
+// The first channel is the script's, the second is for the answers, and there is no third.
+fn with(named: Named, channel: Channel) -> Result<Named, Misuse>
+    ensures { places_read result ≡ one_more (places_of named) (place_of channel) }
+{
+    match named {
+        None => Ok(Some((channel, None))),
+        Some((script, None)) => Ok(Some((script, Some(channel)))),
+        Some((_, Some(_))) => Err(Misuse),
     }
 }
 

@@ -1,10 +1,10 @@
 -- What a judgement and a close leave as it was, for callers that go on after one.
-use Rattle.std.specs.Prelude.{◌≡◌, ℕ, Bool, true, false, ◌≢◌, Some, None, Option, ◌==◌, refl}
-use Rattle.std.proofs.Common.{sym, ap, ◌∙◌, ⊎_elim, arith}
+use Rattle.std.specs.Prelude.{◌≡◌, ℕ, Bool, true, false, ◌≢◌, None, ◌==◌, refl}
+use Rattle.std.proofs.Common.{sym, ap, ◌∙◌, ⊎_elim}
 use Rattle.std.proofs.lemmas.Bool.{eq-eqb, ne_eqb, cases_eq, cond-true, cond-false, cond_both}
 use Rattle.model.specs.CoreSets.{all_below}
 use Rattle.counter.specs.Timeline.{Timeline, note_judgement}
-use Rattle.counter.specs.Meaning.{Meaning, how_many, put_at, has_closed, next_epoch, closes, Judged}
+use Rattle.counter.specs.Meaning.{Meaning, put_at, with_holders, has_closed, next_epoch, closes, Judged}
 
 -- a function with x put at k
 pub put_here : {X : Type 0} (k : ℕ) (x : X) (f : ℕ → X) → put_at k x f k ≡ x
@@ -21,28 +21,10 @@ put_is k x f g here rest q =
     (λ (ne : q ≢ k). rest q ne ∙ sym (put_elsewhere k x f q ne))
     (cases_eq q k)
 
-pub some_is : (m n : ℕ) → Some m ≡ Some n → m ≡ n
-some_is m n e = ap how_many e
-
--- an object that is free is not one without holders
-pub none_not : (v : Option ℕ) (n : ℕ) → v ≡ None → v ≢ Some n
-none_not v n f e = let z : ◌≡◌ {A = ℕ} 0 1 = cc in omega arith
-
-pub judged_cores : (m : Meaning) (o : ℕ) (dead : Bool) (n : Meaning) → Judged m o dead n → n.cores ≡ m.cores
-judged_cores m o true n j = ap (λ (x : Meaning). x.cores) j.1
-judged_cores m o false n j = ap (λ (x : Meaning). x.cores) j
-
-pub judged_epoch : (m : Meaning) (o : ℕ) (dead : Bool) (n : Meaning) → Judged m o dead n → n.epoch ≡ m.epoch
-judged_epoch m o true n j = ap (λ (x : Meaning). x.epoch) j.1
-judged_epoch m o false n j = ap (λ (x : Meaning). x.epoch) j
-
-pub judged_folded : (m : Meaning) (o : ℕ) (dead : Bool) (n : Meaning) → Judged m o dead n → n.folded ≡ m.folded
-judged_folded m o true n j = ap (λ (x : Meaning). x.folded) j.1
-judged_folded m o false n j = ap (λ (x : Meaning). x.folded) j
-
-pub judged_closed : (m : Meaning) (o : ℕ) (dead : Bool) (n : Meaning) → Judged m o dead n → n.closed ≡ m.closed
-judged_closed m o true n j = ap (λ (x : Meaning). x.closed) j.1
-judged_closed m o false n j = ap (λ (x : Meaning). x.closed) j
+-- a judgement leaves all but the holders: the cores, the epoch and the marks
+pub judged_rest : (m : Meaning) (o : ℕ) (dead : Bool) (n : Meaning) → Judged m o dead n → n ≡ with_holders n.holders m
+judged_rest m o true n j = rw j.1 refl
+judged_rest m o false n j = rw j refl
 
 -- the holders of the other objects
 pub judged_others : (m : Meaning) (o : ℕ) (dead : Bool) (n : Meaning) → Judged m o dead n → (q : ℕ) → q ≢ o → n.holders q ≡ m.holders q

@@ -26,3 +26,18 @@ Does (Revive c o) m k = k ≡ raised o m
 Does (Fold c) m k = k ≡ has_folded c m
 Does (Judge c o dead) m k = Judged m o dead k
 Does (Close c) m k = k ≡ closes c m
+
+-- a judgement answers what the tables find of the object for the core; nothing else answers
+abbrev pub AnswersAs : (ℕ → ℕ → Bool) → Operation → Type 0
+AnswersAs finds (Give o n) = Unit {0}
+AnswersAs finds (Up c o) = Unit {0}
+AnswersAs finds (Down c o) = Unit {0}
+AnswersAs finds (Revive c o) = Unit {0}
+AnswersAs finds (Fold c) = Unit {0}
+AnswersAs finds (Judge c o dead) = dead ≡ finds c o
+AnswersAs finds (Close c) = Unit {0}
+
+-- one operation, exactly: what it makes of a counter's tables, and its answer
+pub record Steps {S : Type 0} (after : Operation → S → S) (finds : S → ℕ → ℕ → Bool) (s : S) (op : Operation) (t : S) : Type 0 where
+  pub tables : t ≡ after op s
+  pub answer : AnswersAs (finds s) op

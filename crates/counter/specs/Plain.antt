@@ -4,7 +4,7 @@ use Rattle.counter.specs.declared.epoch.Clock.{Clock}
 use Rattle.counter.specs.Meaning.{Meaning, how_many, Operation}
 use Rattle.counter.specs.Meaning.Operation.{Give, Up, Down, Revive, Fold, Judge, Close}
 use Rattle.counter.specs.Clocks.{clock_meaning, clock_started, clock_folds, clock_closes}
-use Rattle.counter.specs.Operations.{Object}
+use Rattle.counter.specs.Operations.{Object, Steps}
 use Rattle.counter.specs.Timeline.{Timeline}
 
 -- the number of holders of each object in use, and the epoch with its marks
@@ -52,19 +52,12 @@ table_after (Judge c o dead) t = cond dead (put_count o None t) t
 table_after (Close c) t = at_clock (clock_closes c t.clock) t
 
 -- dead is said exactly of an object in use without holders
-abbrev pub AnswersRight : Table → Operation → Type 0
-AnswersRight t (Give o n) = Unit {0}
-AnswersRight t (Up c o) = Unit {0}
-AnswersRight t (Down c o) = Unit {0}
-AnswersRight t (Revive c o) = Unit {0}
-AnswersRight t (Fold c) = Unit {0}
-AnswersRight t (Judge c o dead) = dead ≡ unheld (count_at t o)
-AnswersRight t (Close c) = Unit {0}
+abbrev pub finds_unheld : Table → ℕ → ℕ → Bool
+finds_unheld t c o = unheld (count_at t o)
 
 -- one operation, exactly
-pub record TableSteps (t : Table) (op : Operation) (u : Table) : Type 0 where
-  pub table : u ≡ table_after op t
-  pub answer : AnswersRight t op
+abbrev pub TableSteps : Table → Operation → Table → Type 0
+TableSteps t op u = Steps table_after finds_unheld t op u
 
 -- an object without holders lost the last one in this epoch, or in the one before and no core has judged it since
 pub record SoonJudged (t : Table) (p : Timeline) (o : ℕ) : Type 0 where

@@ -10,7 +10,7 @@ use Rattle.counter.specs.Timeline.{Timeline, note_loss, note_judgement, note_epo
 use Rattle.counter.specs.Clocks.{clock_meaning, clock_turned, clock_marked, last_to_close}
 use Rattle.counter.specs.Plain.{Table, count_at, table_meaning, unheld, put_count, at_clock, table_after, TableSteps, TableTimely}
 use Rattle.counter.specs.ClocksLemmas.{folds_means, closes_means, last_means}
-use Rattle.counter.specs.Meanings.{put_here, put_elsewhere, put_is, none_not, some_is, judged_other}
+use Rattle.counter.specs.Meanings.{put_here, put_elsewhere, put_is, judged_other}
 
 -- a table in which one count was written
 count_here : (o : ℕ) (x : Option ℕ) (t : Table) → o < length t.counts → count_at (put_count o x t) o ≡ x
@@ -36,15 +36,15 @@ held_not x e z = both_ways (unheld x) (sym e) (ap unheld z)
 
 pub plain_means : (capacity : ℕ) (revives : Bool) (t u : Table) (op : Operation) → capacity < length t.counts →
     Allowed capacity revives (table_meaning t) op → TableSteps t op u → Does op (table_meaning t) (table_meaning u)
-plain_means capacity revives t u (Give o n) room may step = ap table_meaning step.table ∙ count_means o _ t (omega (arith, may.0.1))
-plain_means capacity revives t u (Up c o) room may step = ap table_meaning step.table ∙ count_means o _ t (omega (arith, may.0.1))
-plain_means capacity revives t u (Down c o) room may step = ap table_meaning step.table ∙ count_means o _ t (omega (arith, may.0.1))
-plain_means capacity revives t u (Revive c o) room may step = ap table_meaning step.table ∙ count_means o _ t (omega (arith, may.0.1))
-plain_means capacity revives t u (Fold c) room may step = ap table_meaning step.table ∙ folds_means c t.clock (count_at t)
+plain_means capacity revives t u (Give o n) room may step = ap table_meaning step.tables ∙ count_means o _ t (omega (arith, may.0.1))
+plain_means capacity revives t u (Up c o) room may step = ap table_meaning step.tables ∙ count_means o _ t (omega (arith, may.0.1))
+plain_means capacity revives t u (Down c o) room may step = ap table_meaning step.tables ∙ count_means o _ t (omega (arith, may.0.1))
+plain_means capacity revives t u (Revive c o) room may step = ap table_meaning step.tables ∙ count_means o _ t (omega (arith, may.0.1))
+plain_means capacity revives t u (Fold c) room may step = ap table_meaning step.tables ∙ folds_means c t.clock (count_at t)
 plain_means capacity revives t u (Judge c o true) room may step =
-    (unheld_is (count_at t o) step.answer, ap table_meaning step.table ∙ count_means o None t (omega (arith, may.0.1)))
-plain_means capacity revives t u (Judge c o false) room may step = ap table_meaning step.table
-plain_means capacity revives t u (Close c) room may step = ap table_meaning step.table ∙ closes_means c t.clock (count_at t)
+    (unheld_is (count_at t o) step.answer, ap table_meaning step.tables ∙ count_means o None t (omega (arith, may.0.1)))
+plain_means capacity revives t u (Judge c o false) room may step = ap table_meaning step.tables
+plain_means capacity revives t u (Close c) room may step = ap table_meaning step.tables ∙ closes_means c t.clock (count_at t)
 
 -- The time
 
@@ -54,7 +54,8 @@ held_timely : (capacity o n : ℕ) (t : Table) (p : Timeline) → o < length t.c
 held_timely capacity o n t p lt some timely q is z =
     ⊎_elim
     (λ (e : q ≡ o).
-    let was : n ≡ 0 = some_is n 0 (sym (ap (count_at (put_count o (Some n) t)) e ∙ count_here o (Some n) t lt) ∙ z) in
+    let now = ap (count_at (put_count o (Some n) t)) e ∙ count_here o (Some n) t lt in
+    let was : n ≡ 0 = cc in
     absurd (omega arith))
     (λ (ne : q ≢ o). let s = timely q is (sym (count_other o q (Some n) t ne) ∙ z) in record { soon = s.soon; unseen = s.unseen })
     (cases_eq q o)
@@ -77,7 +78,7 @@ loss_timely capacity o n t p timely q is z =
 judge_leaves : (o q : ℕ) (dead : Bool) (t : Table) → o < length t.counts → dead ≡ unheld (count_at t o) →
     count_at (cond dead (put_count o None t) t) q ≡ Some 0 → (q ≢ o) × (count_at t q ≡ Some 0)
 judge_leaves o q true t lt answer z =
-    let ne : q ≢ o = λ e. none_not _ 0 (ap (count_at (put_count o None t)) e ∙ count_here o None t lt) z in
+    let ne : q ≢ o = λ e. (let now = ap (count_at (put_count o None t)) e ∙ count_here o None t lt in cc) in
     (ne, sym (count_other o q None t ne) ∙ z)
 judge_leaves o q false t lt answer z = (λ e. held_not (count_at t o) answer (ap (count_at t) (sym e) ∙ z), z)
 
@@ -111,18 +112,18 @@ pub plain_onward : (capacity : ℕ) (revives : Bool) (t u : Table) (op : Operati
     Allowed capacity revives (table_meaning t) op → TableSteps t op u → InTurn capacity op p → TableTimely capacity t p →
     TableTimely capacity u (noted op (table_meaning t) p)
 plain_onward capacity revives t u (Give o n) p room may step turn timely =
-    subst (λ (v : Table). TableTimely capacity v p) (sym step.table) (held_timely capacity o n t p (omega (arith, may.0.1)) may.2 timely)
+    subst (λ (v : Table). TableTimely capacity v p) (sym step.tables) (held_timely capacity o n t p (omega (arith, may.0.1)) may.2 timely)
 plain_onward capacity revives t u (Up c o) p room may step turn timely =
-    subst (λ (v : Table). TableTimely capacity v p) (sym step.table) (held_timely capacity o _ t p (omega (arith, may.0.1)) (omega arith) timely)
+    subst (λ (v : Table). TableTimely capacity v p) (sym step.tables) (held_timely capacity o _ t p (omega (arith, may.0.1)) (omega arith) timely)
 plain_onward capacity revives t u (Down c o) p room may step turn timely =
-    subst (λ (v : Table). TableTimely capacity v (note_loss o t.clock.epoch p)) (sym step.table) (loss_timely capacity o _ t p timely)
+    subst (λ (v : Table). TableTimely capacity v (note_loss o t.clock.epoch p)) (sym step.tables) (loss_timely capacity o _ t p timely)
 plain_onward capacity revives t u (Revive c o) p room may step turn timely =
-    subst (λ (v : Table). TableTimely capacity v p) (sym step.table) (held_timely capacity o _ t p (omega (arith, may.0.1)) (omega arith) timely)
+    subst (λ (v : Table). TableTimely capacity v p) (sym step.tables) (held_timely capacity o _ t p (omega (arith, may.0.1)) (omega arith) timely)
 plain_onward capacity revives t u (Fold c) p room may step turn timely =
-    subst (λ (v : Table). TableTimely capacity v p) (sym step.table) (λ q is z. let s = timely q is z in record { soon = s.soon; unseen = s.unseen })
+    subst (λ (v : Table). TableTimely capacity v p) (sym step.tables) (λ q is z. let s = timely q is z in record { soon = s.soon; unseen = s.unseen })
 plain_onward capacity revives t u (Judge c o dead) p room may step turn timely =
-    subst (λ (v : Table). TableTimely capacity v (note_judgement c o p)) (sym step.table) (judge_timely capacity c o dead t p (omega (arith, may.0.1)) step.answer timely)
+    subst (λ (v : Table). TableTimely capacity v (note_judgement c o p)) (sym step.tables) (judge_timely capacity c o dead t p (omega (arith, may.0.1)) step.answer timely)
 plain_onward capacity revives t u (Close c) p room may step turn timely =
-    subst (λ (v : Table). TableTimely capacity v (noted (Close c) (table_meaning t) p)) (sym step.table)
+    subst (λ (v : Table). TableTimely capacity v (noted (Close c) (table_meaning t) p)) (sym step.tables)
     (subst (λ (b : Bool). TableTimely capacity (table_after (Close c) t) (cond b (note_epoch p) p)) (last_means c t.clock (count_at t))
     (close_timely capacity c (last_to_close c t.clock) t p turn timely))

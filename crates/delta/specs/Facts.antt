@@ -1,10 +1,11 @@
 -- Facts about one record: what folding a change and judging leave.
-use Rattle.std.specs.Prelude.{◌≡◌, ℕ, ◌+◌, ◌≤◌, Bool, true, false, cond, not, ◌&&◌, ℤ, pos, negsuc, ◌+ℤ◌, is_some, Some, None, Option, ◌==◌, ◌≢◌, nat_le, refl}
+use Rattle.std.specs.Prelude.{◌≡◌, ℕ, ◌+◌, ◌≤◌, true, false, not, ◌&&◌, ℤ, pos, negsuc, ◌+ℤ◌, is_some, Some, None, Option, ◌==◌, ◌≢◌, nat_le, refl}
 use Rattle.std.proofs.Common.{sym, ap, ◌∙◌, arith}
 use Rattle.std.proofs.lemmas.Bool.{eqb-true, eq-eqb, ne_eqb, lt-leb, le-leb, and_parts, and_from, and_left, or_from, or_left, cond_both, both_ways}
 use Rattle.counter.specs.declared.epoch.Clock.{Clock}
 use Rattle.ledger.specs.declared.record.Record.{Record}
-use Rattle.ledger.specs.Records.{is_zero, with_shared, disturbed_by, spared, enlisted, unlisted, after_fold, lists, on_list_of, is_due, firm, verdict, after_judge}
+use Rattle.ledger.specs.Records.{is_zero, with_shared, spared, enlisted, unlisted, after_fold, lists, on_list_of, is_due, firm, verdict, after_judge}
+use Rattle.ledger.proofs.Folding.{settled_cases}
 use Rattle.delta.specs.Safety.{used, pending, folded_since}
 
 pub is_zero_is : (z : ℤ) → is_zero z ≡ true → z ≡ pos 0
@@ -25,27 +26,19 @@ some_on None e P f = absurd (both_ways false refl e)
 
 -- Folding
 
-pick_used : (a b : Bool) (core epoch : ℕ) (r : Record) → is_some r.list ≡ a → is_zero r.shared ≡ b →
-    used (cond a (disturbed_by r) (cond b (enlisted core epoch r) r)) ≡ true
-pick_used true b core epoch r e f = rw e refl
-pick_used false true core epoch r e f = refl
-pick_used false false core epoch r e f = rw (e, f) refl
-
 -- an object of which a change is reported stays in use
 pub after_fold_used : (core epoch : ℕ) (d : ℤ) (r : Record) → used (after_fold core epoch d r) ≡ true
-after_fold_used core epoch d r = pick_used (is_some r.list) (is_zero (r.shared +ℤ d)) core epoch (with_shared (r.shared +ℤ d) r) refl refl
-
-pick_pending : (a b : Bool) (core epoch : ℕ) (r : Record) → is_some r.list ≡ a → is_zero r.shared ≡ b →
-    pending (cond a (disturbed_by r) (cond b (enlisted core epoch r) r)) ≡ true →
-    ((cond a (disturbed_by r) (cond b (enlisted core epoch r) r)).shared ≡ pos 0) × ((cond a (disturbed_by r) (cond b (enlisted core epoch r) r)).listed ≡ epoch)
-pick_pending true b core epoch r e f h = absurd (both_ways false refl (and_parts (is_some r.list) false h).1)
-pick_pending false true core epoch r e f h = (is_zero_is r.shared f, refl)
-pick_pending false false core epoch r e f h = absurd (both_ways _ e (and_parts (is_some r.list) _ h).0)
+after_fold_used core epoch d r =
+    settled_cases (λ q. used q ≡ true) core epoch (with_shared (r.shared +ℤ d) r) (λ listed. rw listed refl) (λ _ _. refl) (λ none more. rw (none, more) refl)
 
 -- and if it is pending then, it was listed just now
 pub after_fold_pending : (core epoch : ℕ) (d : ℤ) (r : Record) → pending (after_fold core epoch d r) ≡ true →
     ((after_fold core epoch d r).shared ≡ pos 0) × ((after_fold core epoch d r).listed ≡ epoch)
-after_fold_pending core epoch d r = pick_pending (is_some r.list) (is_zero (r.shared +ℤ d)) core epoch (with_shared (r.shared +ℤ d) r) refl refl
+after_fold_pending core epoch d r =
+    settled_cases (λ q. pending q ≡ true → (q.shared ≡ pos 0) × (q.listed ≡ epoch)) core epoch (with_shared (r.shared +ℤ d) r)
+    (λ _ p. absurd (both_ways false refl (and_parts (is_some r.list) false p).1))
+    (λ _ zero p. (is_zero_is (r.shared +ℤ d) zero, refl))
+    (λ none _ p. absurd (both_ways _ none (and_parts (is_some r.list) _ p).0))
 
 -- a revived object is not pending
 pub spared_pending : (r : Record) → pending (spared r) ≢ true

@@ -2,7 +2,6 @@ pub mod Safety
 pub mod Promptness
 pub mod View
 pub mod Revival
-pub mod Props
 pub mod Keeps
 pub mod Safe
 pub mod Facts

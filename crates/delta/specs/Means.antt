@@ -7,7 +7,7 @@ use Rattle.std.proofs.lemmas.Bool.{cond-true, cond-false, cases_eq, cases_Bool, 
 use Rattle.counter.specs.Meaning.{Meaning, how_many, put_at, with_holders, begun, given, has_folded, Judged}
 use Rattle.counter.specs.Clocks.{clock_meaning, clock_folds, clock_started}
 use Rattle.counter.specs.ClocksLemmas.{started_means, folds_means}
-use Rattle.counter.specs.Meanings.{put_is, none_not, some_is}
+use Rattle.counter.specs.Meanings.{put_is}
 use Rattle.ledger.specs.declared.slot.Delta.{Delta}
 use Rattle.ledger.specs.declared.slot.Move.{Move}
 use Rattle.ledger.specs.declared.slot.Move.TheVariants.{Gain, Loss}
@@ -44,7 +44,7 @@ held_used st o h =
 
 pub free_used : (st : State) (o : ℕ) → holders_in st o ≡ None → used (record_at st o) ≡ false
 free_used st o h =
-    ⊎_elim (λ (e : used (record_at st o) ≡ true). absurd (none_not (holders_in st o) _ h (used_holders st o e))) (λ e. e)
+    ⊎_elim (λ (e : used (record_at st o) ≡ true). let held = used_holders st o e in absurd cc) (λ e. e)
     (cases_Bool (used (record_at st o)))
 
 pub many_holders : (st : State) (o : ℕ) → used (record_at st o) ≡ true → how_many (holders_in st o) ≡ unsigned_abs (total st o)
@@ -54,7 +54,8 @@ many_holders st o u = ap how_many (used_holders st o u)
 pub unheld_parts : (st : State) (o : ℕ) → holders_in st o ≡ Some 0 → (used (record_at st o) ≡ true) × (total st o ≡ pos 0)
 unheld_parts st o z =
     let u = inuse_used st o (ap is_some z) in
-    let n : unsigned_abs (total st o) ≡ 0 = some_is _ 0 (sym (used_holders st o u) ∙ z) in
+    let held = used_holders st o u in
+    let n : unsigned_abs (total st o) ≡ 0 = cc in
     (u, omega (arith, ints, n))
 
 same_holders : (st t : State) (o : ℕ) → used (record_at t o) ≡ used (record_at st o) → total t o ≡ total st o → holders_in t o ≡ holders_in st o
@@ -148,7 +149,9 @@ shift_may way core o st sound serves some known u range fresh =
     let epoch : t.clock.epoch ≡ st.clock.epoch = ap (λ (m : Meaning). m.epoch) r.1 in
     let same : holders_in t o ≡ holders_in st o = ap (λ (m : Meaning). m.holders o) r.1 in
     let ut = inuse_used t o (ap is_some (same ∙ used_holders st o u)) in
-    let n : unsigned_abs (total t o) ≡ unsigned_abs (total st o) = some_is _ _ (sym (used_holders t o ut) ∙ same ∙ used_holders st o u) in
+    let after = used_holders t o ut in
+    let before = used_holders st o u in
+    let n : unsigned_abs (total t o) ≡ unsigned_abs (total st o) = cc in
     let z = in_range way (total t o) (r.0.least o) (r.0.ready.few o) (subst (InRange way) (sym n) range) in
     record {
       serves = omega (arith, cores);

@@ -8,7 +8,7 @@ use Rattle.counter.specs.Operations.{Object, Allowed, Does}
 use Rattle.counter.specs.Timeline.{Timeline, note_judgement, note_epoch, noted, InTurn}
 use Rattle.counter.specs.Clocks.{clock_meaning, clock_marked, clock_turned, last_to_close}
 use Rattle.counter.specs.ClocksLemmas.{last_means}
-use Rattle.counter.specs.Meanings.{put_here, put_elsewhere, none_not, some_is, judged_other}
+use Rattle.counter.specs.Meanings.{put_here, put_elsewhere, judged_other}
 use Rattle.ledger.specs.declared.slot.Move.{Move}
 use Rattle.ledger.specs.declared.slot.Move.TheVariants.{Gain, Loss}
 use Rattle.ledger.specs.declared.record.Record.{Record}
@@ -31,7 +31,7 @@ punctual st o e judged t d = record { timed = t.0; seen = t.1; due = d }
 
 -- an object that has holders is not without
 held_not : (f : ℕ → Option ℕ) (o n : ℕ) → f o ≡ Some (n + 1) → f o ≢ Some 0
-held_not f o n e z = let is : n + 1 ≡ 0 = some_is (n + 1) 0 (sym e ∙ z) in omega arith
+held_not f o n e z = let is : n + 1 ≡ 0 = cc in omega arith
 
 -- the holders of object o after holders were put at x
 put_not : (x o n : ℕ) (f : ℕ → Option ℕ) → o ≡ x → put_at x (Some (n + 1)) f o ≢ Some 0
@@ -67,7 +67,8 @@ give_onward x n st o e judged any is p =
     ⊎_elim
     (λ (e1 : o ≡ x). punctual (put_record x r st) o e judged (write_intime judged x r st o new (in_time st o e judged p))
     (λ z.
-    let zero_n : n ≡ 0 = some_is n 0 (sym (at o ∙ ap (put_at x (Some n) (holders_in st)) e1 ∙ put_here x (Some n) (holders_in st)) ∙ z) in
+    let now = at o ∙ ap (put_at x (Some n) (holders_in st)) e1 ∙ put_here x (Some n) (holders_in st) in
+    let zero_n : n ≡ 0 = cc in
     absurd (omega arith)))
     (λ (ne : o ≢ x). write_onward x r st o e judged ne new (λ z. put_back x o (Some n) (holders_in st) ne (sym (at o) ∙ z)) p)
     (cases_eq o x)
@@ -131,7 +132,7 @@ judged_back : (m n : Meaning) (x : ℕ) (dead : Bool) (o : ℕ) → Judged m x d
 judged_back m n x false o j z = sym (ap (λ (k : Meaning). k.holders o) j) ∙ z
 judged_back m n x true o j z =
     ⊎_elim
-    (λ (e : o ≡ x). absurd (none_not (n.holders o) 0 (ap (λ (k : Meaning). k.holders o) j.1 ∙ ap (put_at x None m.holders) e ∙ put_here x None m.holders) z))
+    (λ (e : o ≡ x). let now = ap (λ (k : Meaning). k.holders o) j.1 ∙ ap (put_at x None m.holders) e ∙ put_here x None m.holders in absurd cc)
     (λ (ne : o ≢ x). put_back x o None m.holders ne (sym (ap (λ (k : Meaning). k.holders o) j.1) ∙ z))
     (cases_eq o x)
 
@@ -207,7 +208,7 @@ started_time capacity cores epoch p o obj =
     let is = get_d_replicate 1025 blank o in
     let none : is_some (record_at (started cores epoch) o).list ≡ false = ap (λ (r : Record). is_some r.list) is in
     punctual (started cores epoch) o (p.since o) (λ c. p.judged c o) (unlisted_intime (λ c. p.judged c o) (started cores epoch).clock (record_at (started cores epoch) o) none)
-    (λ z. absurd (none_not _ 0 (free_holders (started cores epoch) o (ap used is)) z))
+    (λ z. let free = free_holders (started cores epoch) o (ap used is) in absurd cc)
 
 pub bound : (capacity : ℕ) (st : State) (p : Timeline) → OnTime capacity st p → (o : ℕ) → Object capacity o → holders_in st o ≡ Some 0 → st.clock.epoch ≤ p.since o + 5
 bound capacity st p on o obj z = due_bound st o (p.since o) (on o obj).timed z ((on o obj).due z)

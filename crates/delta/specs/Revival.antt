@@ -2,8 +2,9 @@
 use Rattle.std.specs.Prelude.{◌≡◌, ℕ, true, false, List, [], ◌∷◌, Some, None}
 use Rattle.counter.specs.Meaning.{Operation}
 use Rattle.counter.specs.Meaning.Operation.{Give, Down, Revive, Fold, Judge, Close}
+use Rattle.counter.specs.Operations.{AnswersAs}
 use Rattle.ledger.specs.Records.{on_list_of}
-use Rattle.ledger.specs.States.{State, started, state_after, AnswersRight, record_at}
+use Rattle.ledger.specs.States.{State, started, state_after, finds_dead, record_at}
 use Rattle.delta.specs.Safety.{holders_in}
 
 -- the tables after several operations
@@ -14,7 +15,7 @@ after_all (op ∷ ops) st = after_all ops (state_after op st)
 -- every judgement among them answers as it does here
 abbrev pub Answered : List Operation → State → Type 0
 Answered [] st = Unit {0}
-Answered (op ∷ ops) st = AnswersRight st op × Answered ops (state_after op st)
+Answered (op ∷ ops) st = AnswersAs (finds_dead st) op × Answered ops (state_after op st)
 
 -- a flush by core 0, as far as node 2 is concerned: it is not found dead
 abbrev pub flush_with : List Operation → List Operation

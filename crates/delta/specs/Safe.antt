@@ -3,6 +3,7 @@ use Rattle.std.specs.Prelude.{◌≡◌, ℕ, zero, suc, ◌+◌, ◌/◌, ◌%�
 use Rattle.std.proofs.Common.{sym, ◌∙◌, ap, subst, ⊎_elim, arith, length-set, get_or-set_same, get_or-set_other}
 use Rattle.std.proofs.lemmas.Int.{ints}
 use Rattle.std.proofs.lemmas.List.{length-replicate}
+use Rattle.std.proofs.Math.Bool.{or-false}
 use Rattle.std.proofs.lemmas.Bool.{eq-eqb, ne_eqb, leb-true, le-leb, and_parts, and_from, or_cases, or_left, or_right, cond_both, cases_eq, cases_lt, both_ways}
 use Rattle.model.specs.CoreSets.{member}
 use Rattle.model.proofs.Sets.{none_member, join_member, all_each}
@@ -332,13 +333,9 @@ not_of core o k st empty some h e =
     let none : object_in (slot_at st k) ≡ 0 = ap (λ (i : ℕ). object_in (slot_at st i)) is ∙ ap object_in (empty (k % 16) (omega arith)) in
     omega (arith, none, h)
 
-or_false : (a b : Bool) → b ≡ false → (a || b) ≡ a
-or_false true b e = refl
-or_false false b e = e
-
 -- a mark on one core says nothing of another
 pub joined_other : (bits c d : ℕ) → d ≢ c → member (bit_or bits (2 ^ c)) d ≡ member bits d
-joined_other bits c d ne = join_member bits c d ∙ or_false (member bits d) (d == c) (ne_eqb d c ne)
+joined_other bits c d ne = join_member bits c d ∙ ap (λ (b : Bool). member bits d || b) (ne_eqb d c ne) ∙ or-false (member bits d)
 
 pub joined_keeps : (bits c d : ℕ) → member bits d ≡ true → member (bit_or bits (2 ^ c)) d ≡ true
 joined_keeps bits c d e = join_member bits c d ∙ or_left (member bits d) (d == c) e
@@ -347,18 +344,22 @@ since_other : (k : Clock) (r : Record) (core c : ℕ) → c ≢ core → folded_
 unfolding folded_since
 since_other k r core c ne = rw (joined_other k.folded.bits core c ne) refl
 
+-- another clock, and the tables stay ready
+clock_ready : (k : Clock) (st : State) → k.cores ≤ 16 → Ready st → Ready (put_clock k st)
+clock_ready k st few ready = record {
+  room = ready.room;
+  wide = ready.wide;
+  within = ready.within;
+  named = ready.named;
+  known = ready.known;
+  few = ready.few;
+  cores = few;
+}
+
 -- a core has folded, once its slots are empty
 folded_sound : (core : ℕ) (st : State) → ((j : ℕ) → j < 16 → slot_at st (place core j) ≡ None) → Sound st → Sound (put_clock (clock_folds core st.clock) st)
 folded_sound core st empty sound = record {
-  ready = record {
-    room = sound.ready.room;
-    wide = sound.ready.wide;
-    within = sound.ready.within;
-    named = sound.ready.named;
-    known = sound.ready.known;
-    few = sound.ready.few;
-    cores = sound.ready.cores;
-  };
+  ready = clock_ready _ st sound.ready.cores sound.ready;
   held = sound.held;
   least = sound.least;
   quiet = λ o some pend.
@@ -404,15 +405,7 @@ pub close_sound : (core : ℕ) (st : State) → Sound st → member st.clock.fol
 close_sound core st sound f =
     cond_both (last_to_close core st.clock) (clock_turned st.clock) (clock_marked core st.clock) (λ (k : Clock). Sound (put_clock k st))
     (λ last. record {
-      ready = record {
-        room = sound.ready.room;
-        wide = sound.ready.wide;
-        within = sound.ready.within;
-        named = sound.ready.named;
-        known = sound.ready.known;
-        few = sound.ready.few;
-        cores = sound.ready.cores;
-      };
+      ready = clock_ready _ st sound.ready.cores sound.ready;
       held = sound.held;
       least = sound.least;
       quiet = λ o some pend.
@@ -422,15 +415,7 @@ close_sound core st sound f =
       after = λ c e. absurd (both_ways _ (none_member c) e);
     })
     (λ _. record {
-      ready = record {
-        room = sound.ready.room;
-        wide = sound.ready.wide;
-        within = sound.ready.within;
-        named = sound.ready.named;
-        known = sound.ready.known;
-        few = sound.ready.few;
-        cores = sound.ready.cores;
-      };
+      ready = clock_ready _ st sound.ready.cores sound.ready;
       held = sound.held;
       least = sound.least;
       quiet = λ o some pend.

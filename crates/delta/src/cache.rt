@@ -1,5 +1,6 @@
 ghost use Rattle.delta.specs.Safety.{Sound};
 ghost use Rattle.ledger.specs.View.{state};
+ghost use Rattle.std.proofs.Props.{props};
 
 use ledger::ledger::Ledger;
 use std::marker::PhantomData;
@@ -9,5 +10,5 @@ use std::marker::PhantomData;
 pub struct DeltaCache<K> {
     pub(crate) kind: PhantomData<K>,
     pub(crate) ledger: Ledger,
-    ghost sound: { ∥ Sound (state ledger) ∥₁ },
+    ghost sound: { Sound (state ledger) } by { Prim.hlevel props },
 }

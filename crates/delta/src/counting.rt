@@ -5,7 +5,6 @@ ghost use Rattle.ledger.specs.States.{started, StateSteps};
 ghost use Rattle.delta.specs.Safety.{delta_meaning};
 ghost use Rattle.delta.specs.Promptness.{OnTime};
 ghost use Rattle.delta.specs.View.{tables};
-ghost use Rattle.delta.specs.Props.{open_sound};
 ghost use Rattle.delta.specs.Keeps.{keeps_meaning};
 ghost use Rattle.delta.specs.Onward.{keeps_time};
 ghost use Rattle.delta.specs.Onward;
@@ -14,6 +13,7 @@ use super::cache::DeltaCache;
 use counter::counter::Counter;
 use counter::kind::Kind;
 use ledger::ledger::Ledger;
+use ledger::spot::Spot;
 use std::marker::PhantomData;
 
 /// Each core reports its changes late; an object is found dead after two quiet epochs on a review list.
@@ -26,11 +26,11 @@ impl<K: Kind> Counter<K> for DeltaCache<K> {
 
     ghost prompt = { Unit {0} };
 
-    ghost means = { λ s t op may step. keeps_meaning K.Kind.CAPACITY K.Kind.REVIVES (tables s) (tables t) op K.Kind.small.1 may step (open_sound (tables s) s.sound) };
+    ghost means = { λ s t op may step. keeps_meaning K.Kind.CAPACITY K.Kind.REVIVES (tables s) (tables t) op K.Kind.small.1 may step s.sound };
 
-    ghost onward = { λ s t op p may step turn timely. keeps_time K.Kind.CAPACITY K.Kind.REVIVES (tables s) (tables t) op p K.Kind.small.1 may step (open_sound (tables s) s.sound) turn timely };
+    ghost onward = { λ s t op p may step turn timely. keeps_time K.Kind.CAPACITY K.Kind.REVIVES (tables s) (tables t) op p K.Kind.small.1 may step s.sound turn timely };
 
-    ghost bound = { λ prompt s p timely o is z. Onward.bound K.Kind.CAPACITY (tables s) p timely o is z };
+    ghost bound = { λ prompt s. Onward.bound K.Kind.CAPACITY (tables s) };
 
     fn start(cores: u8, epoch: u32) -> DeltaCache<K>
         requires few { cores ≤ 16 }
@@ -49,15 +49,15 @@ impl<K: Kind> Counter<K> for DeltaCache<K> {
     }
 
     fn up(&mut self, core: u8, object: u16) {
-        self.ledger.up(core, object);
+        self.ledger.up(Spot { core, object });
     }
 
     fn down(&mut self, core: u8, object: u16) {
-        self.ledger.down(core, object);
+        self.ledger.down(Spot { core, object });
     }
 
     fn revive(&mut self, core: u8, object: u16) {
-        self.ledger.revive(core, object);
+        self.ledger.revive(Spot { core, object });
     }
 
     fn fold(&mut self, core: u8) {

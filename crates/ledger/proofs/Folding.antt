@@ -1,11 +1,11 @@
 -- A slot folded: no number of holders changes, and the tables stay ready.
-use Rattle.std.proofs.Common.{◌≡◌, ℕ, zero, suc, ◌+◌, ◌<◌, ◌≤◌, Bool, true, false, cond, ◌≢◌, length, get_or, set, ℤ, pos, ◌+ℤ◌, nat_abs, is_some, Some, None, Option, sym, refl, ap, ◌∙◌, ⊎_elim, add-one, arith, length-set, get_or-set_other, get_or-set_same}
+use Rattle.std.proofs.Common.{◌≡◌, ℕ, zero, suc, ◌<◌, ◌≤◌, true, false, ◌≢◌, length, get_or, set, ℤ, pos, ◌+ℤ◌, nat_abs, is_some, Some, None, Option, sym, refl, ap, ◌∙◌, ⊎_elim, arith, length-set, get_or-set_other, get_or-set_same}
 use borrow.Author.Differences.{ints}
-use Rattle.std.proofs.lemmas.Bool.{cases_eq, both_ways}
+use Rattle.std.proofs.lemmas.Bool.{cases_eq, both_ways, cond_both}
 use Rattle.ledger.specs.declared.slot.Delta.{Delta}
 use Rattle.ledger.specs.declared.record.Record.{Record}
 use Rattle.ledger.specs.Slots.{place, object_in, change_in, part, sum_of}
-use Rattle.ledger.specs.Records.{blank, after_fold, disturbed_by, enlisted, with_shared, is_zero}
+use Rattle.ledger.specs.Records.{blank, after_fold, settled, disturbed_by, enlisted, with_shared, is_zero}
 use Rattle.ledger.specs.States.{State, Ready, record_at, slot_at, total, put_record, put_slot, reported, fold_slot, fold_first}
 use Rattle.ledger.proofs.Sums.{sum_set, sum_small, each_set, part_same, part_other, part_none}
 
@@ -27,25 +27,17 @@ pub fold_cases : (P : State → Type 0) (core i : ℕ) (st : State) → (slot_at
 unfolding fold_slot
 fold_cases P core i st none some = by_slot P core (place core i) st (slot_at st (place core i)) none some
 
--- as the code folds a slot
-pub folds_some : (core i : ℕ) (st : State) (d : Delta) (r : Record) (rows : _) →
-    Some d ≡ slot_at st (place core i) → r ≡ after_fold core st.clock.epoch d.change (record_at st d.object) →
-    rows ≡ set st.rows (place core i) None →
-    record { records = set st.records d.object r; rows = rows; clock = st.clock } ≡ fold_slot core i st
-unfolding fold_slot
-folds_some core i st d r rows e f g = rw (← e, f, g) refl
-
-pub folds_none : (core i : ℕ) (st : State) → slot_at st (place core i) ≡ None → st ≡ fold_slot core i st
-unfolding fold_slot
-folds_none core i st e = rw e refl
-
-pick_shared : (a b : Bool) (core epoch : ℕ) (r : Record) → (cond a (disturbed_by r) (cond b (enlisted core epoch r) r)).shared ≡ r.shared
-pick_shared true b core epoch r = refl
-pick_shared false true core epoch r = refl
-pick_shared false false core epoch r = refl
+-- the three ways of a record whose shared count has just changed
+pub settled_cases : (P : Record → Type 0) (core epoch : ℕ) (r : Record) → (is_some r.list ≡ true → P (disturbed_by r)) →
+    (is_some r.list ≡ false → is_zero r.shared ≡ true → P (enlisted core epoch r)) → (is_some r.list ≡ false → is_zero r.shared ≡ false → P r) →
+    P (settled core epoch r)
+settled_cases P core epoch r listed empty other =
+    cond_both (is_some r.list) (disturbed_by r) _ P listed
+    (λ n. cond_both (is_zero r.shared) (enlisted core epoch r) r P (λ z. empty n z) (λ z. other n z))
 
 pub after_fold_shared : (core epoch : ℕ) (d : ℤ) (r : Record) → (after_fold core epoch d r).shared ≡ r.shared +ℤ d
-after_fold_shared core epoch d r = pick_shared (is_some r.list) (is_zero (r.shared +ℤ d)) core epoch (with_shared (r.shared +ℤ d) r)
+after_fold_shared core epoch d r =
+    settled_cases (λ q. q.shared ≡ r.shared +ℤ d) core epoch (with_shared (r.shared +ℤ d) r) (λ _. refl) (λ _ _. refl) (λ _ _. refl)
 
 -- a slot emptied into a record
 pub total_moved : (o k : ℕ) (d : Delta) (r : Record) (st : State) → k < length st.rows → d.object < length st.records →
@@ -114,14 +106,6 @@ fold_empties core i st lt =
     fold_cases (λ t. slot_at t (place core i) ≡ None) core i st (λ e. e) (λ d is. get_or-set_same st.rows (place core i) None None lt)
 
 -- The first slots of a core, in order
-
-pub first_none : (core : ℕ) (st : State) → st ≡ fold_first core 0 st
-unfolding fold_first
-first_none core st = refl
-
-pub first_more : (core i : ℕ) (st t : State) → t ≡ fold_first core i st → fold_slot core i t ≡ fold_first core (i + 1) st
-unfolding fold_first
-first_more core i st t e = rw (add-one, e) refl
 
 -- what folding one slot keeps, folding several keeps
 pub first_keeps : (P : State → Type 0) (core i : ℕ) (st : State) → ((j : ℕ) (t : State) → j < i → P t → P (fold_slot core j t)) → P st → P (fold_first core i st)

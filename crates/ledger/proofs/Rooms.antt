@@ -1,12 +1,12 @@
 -- Room for a change in the slot of an object.
-use Rattle.std.proofs.Common.{◌≡◌, ℕ, ◌%◌, ◌<◌, ◌≤◌, true, false, not, eqb, ◌⊎◌, set, ℤ, ◌+ℤ◌, nat_abs, Some, None, Option, sym, refl, ap, ◌∙◌, inl, inr, arith}
+use Rattle.std.proofs.Common.{◌≡◌, ℕ, ◌%◌, ◌<◌, ◌≤◌, true, false, not, eqb, ◌⊎◌, ℤ, ◌+ℤ◌, nat_abs, Some, None, Option, refl, inl, inr, arith}
 use borrow.Author.Differences.{ints}
-use Rattle.std.proofs.lemmas.Bool.{eqb-true, or_parts, not-false, cond_both, cond-true, cond-false}
+use Rattle.std.proofs.lemmas.Bool.{eqb-true, or_parts, not-false, cond_both}
 use Rattle.ledger.specs.declared.slot.Delta.{Delta}
 use Rattle.ledger.specs.declared.slot.Move.{Move}
 use Rattle.ledger.specs.declared.slot.Move.TheVariants.{Gain, Loss}
 use Rattle.ledger.specs.Slots.{object_in, change_in, by_of}
-use Rattle.ledger.specs.States.{State, Ready, slot_at, slot_of, fold_slot, at_limit, is_full, make_room, moved}
+use Rattle.ledger.specs.States.{State, Ready, slot_at, slot_of, fold_slot, at_limit, is_full, make_room}
 use Rattle.ledger.proofs.Folding.{place_fits, fold_empties}
 
 -- a slot with room for a change of object o
@@ -37,24 +37,9 @@ pub room_cases : (P : State → Type 0) (way : Move) (core o : ℕ) (st : State)
 unfolding make_room
 room_cases P way core o st full left = cond_both (is_full way o (slot_at st (slot_of core o))) (fold_slot core (o % 16) st) st P full left
 
-pub room_full : (way : Move) (core o : ℕ) (st : State) (s : Option Delta) → s ≡ slot_at st (slot_of core o) → is_full way o s ≡ true →
-    fold_slot core (o % 16) st ≡ make_room way core o st
-unfolding make_room
-room_full way core o st s e f = sym (cond-true _ (fold_slot core (o % 16) st) st (ap (is_full way o) (sym e) ∙ f))
-
-pub room_left : (way : Move) (core o : ℕ) (st : State) (s : Option Delta) → s ≡ slot_at st (slot_of core o) → is_full way o s ≡ false →
-    st ≡ make_room way core o st
-unfolding make_room
-room_left way core o st s e f = sym (cond-false _ (fold_slot core (o % 16) st) st (ap (is_full way o) (sym e) ∙ f))
-
 -- there is room then
 pub room_made : (way : Move) (core o : ℕ) (st : State) → core < 16 → Ready st → Room way o (slot_at (make_room way core o st) (slot_of core o))
 room_made way core o st hc ready =
     room_cases (λ t. Room way o (slot_at t (slot_of core o))) way core o st
     (λ _. room_empty way o _ (fold_empties core (o % 16) st (place_fits core (o % 16) _ hc (omega arith) ready.wide)))
     (λ e. room_kept way o _ (ready.within (slot_of core o)) e)
-
--- as the code moves a change
-pub moves : (way : Move) (z : ℤ) (core o : ℕ) (st : State) (rows : _) → rows ≡ set st.rows (slot_of core o) (Some (record { object = o; change = z })) →
-    z ≡ change_in (slot_at st (slot_of core o)) +ℤ by_of way → record { records = st.records; rows = rows; clock = st.clock } ≡ moved way core o st
-moves way z core o st rows e f = rw (e, f) refl

@@ -3,6 +3,7 @@ use Rattle.std.specs.Prelude.{◌≡◌, ℕ, zero, suc, ◌%◌, ◌≤◌, Boo
 use Rattle.counter.specs.declared.epoch.Clock.{Clock}
 use Rattle.counter.specs.Meaning.{Operation}
 use Rattle.counter.specs.Meaning.Operation.{Give, Up, Down, Revive, Fold, Judge, Close}
+use Rattle.counter.specs.Operations.{Steps}
 use Rattle.counter.specs.Clocks.{clock_started, clock_folds, clock_closes}
 use Rattle.ledger.specs.declared.slot.Delta.{Delta}
 use Rattle.ledger.specs.declared.record.Record.{Record}
@@ -102,19 +103,12 @@ state_after (Judge c o dead) st = judge_at c o st
 state_after (Close c) st = put_clock (clock_closes c st.clock) st
 
 -- dead is said exactly where the verdict is so
-abbrev pub AnswersRight : State → Operation → Type 0
-AnswersRight st (Give o n) = Unit {0}
-AnswersRight st (Up c o) = Unit {0}
-AnswersRight st (Down c o) = Unit {0}
-AnswersRight st (Revive c o) = Unit {0}
-AnswersRight st (Fold c) = Unit {0}
-AnswersRight st (Judge c o dead) = dead ≡ verdict c st.clock.epoch (record_at st o)
-AnswersRight st (Close c) = Unit {0}
+abbrev pub finds_dead : State → ℕ → ℕ → Bool
+finds_dead st c o = verdict c st.clock.epoch (record_at st o)
 
 -- one operation, exactly
-pub record StateSteps (st : State) (op : Operation) (u : State) : Type 0 where
-  pub tables : u ≡ state_after op st
-  pub answer : AnswersRight st op
+abbrev pub StateSteps : State → Operation → State → Type 0
+StateSteps st op u = Steps state_after finds_dead st op u
 
 -- the tables have their sizes, each slot in use has an object with a record, and no count is too large to be changed
 pub record Ready (st : State) : Type 0 where

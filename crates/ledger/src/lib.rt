@@ -7,3 +7,4 @@ pub mod operations;
 pub mod record;
 pub mod slot;
 pub mod slots;
+pub mod spot;

@@ -3,6 +3,13 @@ ghost use Rattle.ledger.specs.Records.{after_fold, after_judge, verdict, enliste
 
 use model::page::Core;
 
+/// A core that comes to a record, and the epoch in which it does.
+#[derive(Clone, Copy)]
+pub struct Visit {
+    pub core: Core,
+    pub epoch: u32,
+}
+
 /// What is known of an object beside the changes that the cores have yet to report.
 #[derive(Clone, Copy)]
 pub struct Record {
@@ -48,11 +55,11 @@ impl Record {
     }
 
     /// Goes on the core's review list.
-    fn enlist(&mut self, core: Core, epoch: u32)
-        ensures { self.new ≡ enlisted core epoch self.old }
+    fn enlist(&mut self, by: Visit)
+        ensures { self.new ≡ enlisted by.core by.epoch self.old }
     {
-        self.list = Some(core);
-        self.listed = epoch;
+        self.list = Some(by.core);
+        self.listed = by.epoch;
         self.disturbed = false;
         self.condemned = true;
     }
@@ -65,34 +72,31 @@ impl Record {
     }
 
     /// Takes a reported change into the shared count. One of 0 disturbs too: the core may have had an up and a down since the listing.
-    pub fn fold(&mut self, core: Core, epoch: u32, change: i8)
+    pub fn fold(&mut self, by: Visit, change: i8)
         requires { (unsigned_abs self.old.shared ≤ 91136) × (unsigned_abs change ≤ 100) }
-        ensures { self.new ≡ after_fold core epoch change self.old }
+        ensures { self.new ≡ after_fold by.core by.epoch change self.old }
     {
         self.shared += change as i32;
         if self.list.is_some() {
             self.disturbed = true;
         } else if self.shared == 0 {
-            self.enlist(core, epoch);
+            self.enlist(by);
         }
     }
 
     /// Whether it is on the core's list, since two epochs.
-    fn is_due(&self, core: Core, epoch: u32) -> bool
-        ensures { result ≡ is_due core epoch self.now }
+    fn is_due(&self, by: Visit) -> bool
+        ensures { result ≡ is_due by.core by.epoch self.now }
     {
-        let Some(lister) = self.list else {
-            return false;
-        };
-        lister == core && epoch >= 2 && self.listed <= epoch - 2
+        self.list == Some(by.core) && by.epoch >= 2 && self.listed <= by.epoch - 2
     }
 
     /// Whether the object is dead: nothing was shared, reported or revived for two epochs.
-    pub fn judge(&mut self, core: Core, epoch: u32) -> bool
-        ensures after { self.new ≡ after_judge core epoch self.old }
-        ensures says { result ≡ verdict core epoch self.old }
+    pub fn judge(&mut self, by: Visit) -> bool
+        ensures after { self.new ≡ after_judge by.core by.epoch self.old }
+        ensures says { result ≡ verdict by.core by.epoch self.old }
     {
-        if !self.is_due(core, epoch) {
+        if !self.is_due(by) {
             return false;
         }
         if self.shared != 0 {
@@ -101,7 +105,7 @@ impl Record {
             return false;
         }
         if self.disturbed || !self.condemned {
-            self.enlist(core, epoch);
+            self.enlist(by);
             return false;
         }
         self.unlist();

@@ -13,12 +13,12 @@ pub struct DeltaSlots {
     ghost homed: { Homed rows },
 }
 
-// Where a slot of a core lies.
-fn place_of(core: u8, index: u16) -> usize
+/// The row of slot `index` of a core. A byte numbers each of the 256 rows.
+pub(super) fn row_of(core: u8, index: u8) -> u8
     requires { (core < 16) × (index < 16) }
     ensures { result ≡ place core index }
 {
-    16 * core as usize + index as usize
+    16 * core + index
 }
 
 impl DeltaSlots {
@@ -29,30 +29,26 @@ impl DeltaSlots {
         DeltaSlots { rows: [None; 256] }
     }
 
-    /// What a slot of a core has.
-    pub fn at(&self, core: u8, index: u16) -> Option<Delta>
-        requires { (core < 16) × (index < 16) }
-        ensures value { result ≡ slice_index_or self.now.rows (place core index) None }
+    /// What a slot has.
+    pub fn at(&self, row: u8) -> Option<Delta>
+        ensures value { result ≡ slice_index_or self.now.rows row None }
         ensures within { unsigned_abs (change_in result) ≤ 100 }
     {
-        self.rows[place_of(core, index)]
+        self.rows[row as usize]
     }
 
     /// Puts a change into a slot, in the place of what it has.
-    pub fn put(&mut self, core: u8, index: u16, delta: Delta)
-        requires { (core < 16) × ((index < 16) × (Fits index delta)) }
-        ensures { self.new.rows ≡ slice_set self.old.rows (place core index) (Some delta) }
+    pub fn put(&mut self, row: u8, delta: Delta)
+        requires { Fits row delta }
+        ensures { self.new.rows ≡ slice_set self.old.rows row (Some delta) }
     {
-        let place = place_of(core, index);
-        self.rows[place] = Some(delta);
+        self.rows[row as usize] = Some(delta);
     }
 
     /// Empties a slot.
-    pub fn clear(&mut self, core: u8, index: u16)
-        requires { (core < 16) × (index < 16) }
-        ensures { self.new.rows ≡ slice_set self.old.rows (place core index) None }
+    pub fn clear(&mut self, row: u8)
+        ensures { self.new.rows ≡ slice_set self.old.rows row None }
     {
-        let place = place_of(core, index);
-        self.rows[place] = None;
+        self.rows[row as usize] = None;
     }
 }

@@ -1,33 +1,27 @@
 // Plays a script of records on a new memory, writes the answers if asked, and states in words what came of it.
 #![tactic(auto)]
 
-mod failure;
-mod options;
-mod sight;
-mod statement;
-mod summary;
-mod words;
-
-use failure::Failure;
-use options::{Channel, Options};
+use command::failure::Failure;
+use command::options::{Channel, Options};
 use script::answer::Reply;
 use script::player::{bytes_of, play};
 use space::memory::Memory;
-use statement::Statement;
+use statement::statement::Statement;
+use statement::summary::Summary;
 use std::io::{Read, Write};
-use std::{fs, io};
-use summary::Summary;
+use std::{env, fs, io};
 
 fn main(rt: HostRuntime) -> Result<(), Failure> {
     run(&rt)
 }
 
 fn run(rt: &HostRuntime) -> Result<(), Failure> {
+    let words = env::args(rt)?.skip(1).collect::<Vec<String>>(rt.alloc())?;
     let Options {
         script,
         answers,
         brief,
-    } = Options::from_arguments(rt)?;
+    } = Options::try_from(words)?;
     let bytes = read_script(rt, script)?;
     let mut memory = Memory::new();
     let replies = play(rt.alloc(), &mut memory, bytes.as_slice())?;
@@ -65,10 +59,7 @@ fn read_script(rt: &HostRuntime, channel: Channel) -> Result<Vec<u8>, Failure> {
         Channel::Standard => read_input(rt),
         Channel::File(name) => fs::read(rt, name.as_str()),
     };
-    match read {
-        Ok(bytes) => Ok(bytes),
-        Err(cause) => Err(Failure::Unread { channel, cause }),
-    }
+    read.map_err(|cause| Failure::Unread { channel, cause })
 }
 
 fn read_input(rt: &HostRuntime) -> io::Result<Vec<u8>> {
@@ -83,8 +74,5 @@ fn write_answers(rt: &HostRuntime, channel: Channel, replies: &[Reply]) -> Resul
         Channel::Standard => rt.stdout().write_all(bytes.as_slice()),
         Channel::File(name) => fs::write(rt, name.as_str(), bytes.as_slice()),
     };
-    match written {
-        Ok(()) => Ok(()),
-        Err(cause) => Err(Failure::Unwritten { channel, cause }),
-    }
+    written.map_err(|cause| Failure::Unwritten { channel, cause })
 }

@@ -12,7 +12,7 @@ use Rattle.tree.specs.declared.slot.Slot.{Slot}
 use Rattle.tree.specs.declared.slot.Slot.TheVariants.{Vacant}
 use Rattle.tree.specs.Changes.{planted}
 use Rattle.tree.specs.Nodes.{slot_at, shows}
-use Rattle.tree.specs.Need.{need, need_by, root_part}
+use Rattle.tree.specs.Need.{at_ends, need, root_part}
 use Rattle.tree.specs.Soundness.{left}
 use Rattle.tree.proofs.Starting.{planted_root}
 use Rattle.space.specs.States.{set_up_state}
@@ -56,15 +56,15 @@ makes cores frames nodes epoch core label made first count serves some range is 
 -- what a map needs where every slot of the root is vacant
 module _ (xs : List Slot) (blank : (s : ℕ) → slot_at xs 1 s ≡ Vacant) where
   one : need xs 64 128 ≡ 1
-  unfolding need need_by
+  unfolding at_ends
   one = ap (λ (x : Slot). root_part xs x 64 128 + 0) (blank 0)
 
   two : need xs 64 127 ≡ 2
-  unfolding need need_by
+  unfolding at_ends
   two = ap (λ (x : Slot). root_part xs x 64 127 + 0) (blank 0)
 
   none : need xs 0 262144 ≡ 0
-  unfolding need need_by
+  unfolding at_ends
   none = ap (λ (x : Slot). root_part xs x 0 4096 + root_part xs (slot_at xs 1 63) 258048 262144) (blank 0)
       ∙ ap (λ (x : Slot). 0 + root_part xs x 258048 262144) (blank 63)
 

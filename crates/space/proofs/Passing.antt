@@ -5,7 +5,8 @@ use Rattle.model.specs.declared.fault.Reason.{Reason}
 use Rattle.model.specs.declared.fault.Reason.TheVariants.{CoreNotInService, BadRange, NoLabel, Mapped, Closing, BadSetUp}
 use Rattle.model.specs.declared.fault.TreeFault.{TreeFault}
 use Rattle.model.specs.Pages.{closing_by, mapped_state}
-use Rattle.model.specs.Flat.{lowest}
+use Rattle.model.specs.declared.fault.SpaceFault.{SpaceFault}
+use Rattle.model.specs.Flat.{Flat, lowest}
 use Rattle.model.proofs.Lowest.{lowest_none}
 use Rattle.tree.specs.declared.slot.Slot.{Slot}
 use Rattle.tree.specs.declared.slot.Slot.TheVariants.{Vacant, Child, Value}
@@ -97,3 +98,11 @@ page_good page e = ltb-true page 262144 (fine (ltb page 262144) BadRange e)
 -- a set up that passes its check is good
 pub passed : (cores frames nodes : ℕ) → set_up_check cores frames nodes ≡ Ok tt → good_set_up cores frames nodes ≡ true
 passed cores frames nodes e = fine (good_set_up cores frames nodes) BadSetUp e
+
+-- what the checks of a map's pages say, from what each of the two says
+module _ (first count : ℕ) (pages : Flat) (a : Check) (closing : a ≡ unless_found (lowest (λ q. closing_by (pages q)) first count) Closing) where
+  pub vacant_passed : (b : Check) → a ≡ Ok tt → b ≡ unless_found (lowest (λ q. mapped_state (pages q)) first count) Mapped → b ≡ vacant_check first count pages
+  vacant_passed b fine mapped = mapped ∙ sym (ap (λ (x : Check). and_then x (unless_found (lowest (λ q. mapped_state (pages q)) first count) Mapped)) (sym closing ∙ fine))
+
+  pub vacant_refused : (e : SpaceFault) → a ≡ Err e → Err e ≡ vacant_check first count pages
+  vacant_refused e bad = sym (ap (λ (x : Check). and_then x (unless_found (lowest (λ q. mapped_state (pages q)) first count) Mapped)) (sym closing ∙ bad))

@@ -1,5 +1,5 @@
 -- The checks of each call, in their order.
-use Rattle.std.specs.Prelude.{ℕ, ◌+◌, Bool, cond, ◌&&◌, Some, None, Ok, Err, Option, Result, nat_le, nat_lt}
+use Rattle.std.specs.Prelude.{◌≡◌, ℕ, ◌+◌, Bool, cond, ◌&&◌, Some, None, Ok, Err, Option, Result, nat_le, nat_lt}
 use Rattle.model.specs.declared.fault.Reason.{Reason}
 use Rattle.model.specs.declared.fault.Reason.TheVariants.{CoreNotInService, BadRange, NoLabel, Mapped, Closing, BadSetUp}
 use Rattle.model.specs.declared.fault.TreeFault.{TreeFault}
@@ -9,6 +9,7 @@ use Rattle.model.specs.declared.fault.SpaceFault.TheVariants.{Refused}
 use Rattle.model.specs.Sizes.{page_count, most_cores, most_frames, most_nodes}
 use Rattle.model.specs.Pages.{closing_by, mapped_state}
 use Rattle.model.specs.Flat.{Flat, lowest}
+use Rattle.tree.specs.declared.pages.Pages.{Pages}
 use Rattle.tree.specs.Room.{room_for}
 use Rattle.tree.specs.declared.table.Tree.{Tree}
 use Rattle.tree.specs.Nodes.{shows}
@@ -16,6 +17,11 @@ use Rattle.tree.specs.Nodes.{shows}
 -- a check passes, or refuses the call
 abbrev pub Check : Type 0
 Check = Result (Unit {0}) SpaceFault
+
+-- what is said by a check that finds a value for what follows
+abbrev pub says : {A : Type 0} → Result A SpaceFault → Check
+says (Ok x) = Ok tt
+says (Err e) = Err e
 
 -- one check after another: the first refusal stands
 abbrev pub and_then : Check → Check → Check
@@ -39,6 +45,11 @@ of_tree (Err e) = Err (faults.Tree e)
 -- at least one page, and none past the last
 abbrev pub good_range : ℕ → ℕ → Bool
 good_range first count = nat_lt 0 count && nat_le (first + count) page_count
+
+-- the `count` pages from `first`
+pub record IsRange (first count : ℕ) (pages : Pages) : Type 0 where
+  pub starts : pages.first ≡ first
+  pub ends : pages.last ≡ first + count
 
 -- 1 to 16 cores, 1 to 1,024 frames, 1 to 64 nodes
 abbrev pub good_set_up : ℕ → ℕ → ℕ → Bool

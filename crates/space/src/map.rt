@@ -3,7 +3,6 @@ ghost use Rattle.space.specs.Calls.{map_answer, map_after};
 ghost use Rattle.space.specs.Laws.{Maps, Accepted};
 ghost use Rattle.space.specs.View.{state};
 
-use super::check::check_map;
 use super::space::Space;
 use counter::counter::Counter;
 use counter::kind::Nodes;
@@ -23,14 +22,9 @@ impl<N: Counter<Nodes> + Drop> Space<N> {
         ensures state { state self.new ≡ map_after core label first count (state self.old) }
         ensures accepted { Accepted result (Maps core label first count self.old self.new) self.old self.new }
     {
-        check_map(self.cores, &self.tree, core, label, first, count)?;
-        self.tree.fill(
-            &mut self.nodes,
-            core,
-            first,
-            first + count,
-            Mapping::fresh(label),
-        );
+        let pages = self.check_map(core, label, first, count)?;
+        self.tree
+            .fill(&mut self.nodes, core, pages, Mapping::fresh(label));
         Ok(0)
     }
 }

@@ -1,6 +1,7 @@
 -- One reply more in the table of refusals.
-use Rattle.std.proofs.Common.{◌≡◌, ℕ, ◌+◌, ◌≤◌, Bool, true, false, eqb, List, [], ◌∷◌, ◌++◌, length, IfSome, None, Ok, Err, sym, refl, ap, ◌∙◌, subst, arith, eqb-true}
+use Rattle.std.proofs.Common.{◌≡◌, ℕ, ◌+◌, ◌≤◌, Bool, true, false, eqb, List, [], ◌∷◌, ◌++◌, length, IfSome, None, Ok, Err, refl, ap, arith, eqb-true}
 use borrow.Author.Tests.{eqb-false}
+use Rattle.std.proofs.lemmas.List.Sums.{sum_by_push, count_by-le-length}
 use Rattle.std.specs.BTreeMap.{BTreeMap}
 use Rattle.std.specs.BTreeMap.{IsOrdered, IsEmpty}
 use Rattle.model.specs.declared.fault.Fault.{Fault}
@@ -12,37 +13,20 @@ use Rattle.statement.specs.Tables.{times_in, entry_at, OneMore, Tabled}
 use Rattle.std.specs.Ordering.{nat_cmp}
 
 refused_more : (n : ℕ) (rs : List Reply) (r : Reply) → refused_as n (rs ++ (r ∷ [])) ≡ refused_as n rs + one (faults_as n r.outcome)
-unfolding refused_as
-refused_more n [] r = let k = one (faults_as n r.outcome) in let e : k + 0 ≡ 0 + k = omega arith in e
-refused_more n (x ∷ rs) r =
-    let a = one (faults_as n x.outcome) in
-    let b = one (faults_as n r.outcome) in
-    let k = refused_as n rs in
-    let e : a + (k + b) ≡ a + k + b = omega arith in
-    ap (λ (j : ℕ). a + j) (refused_more n rs r) ∙ e
-
-one_few : (b : Bool) → one b ≤ 1
-one_few true = omega arith
-one_few false = omega arith
-
-refused_few : (n : ℕ) (rs : List Reply) → refused_as n rs ≤ length rs
-unfolding refused_as
-refused_few n [] = omega arith
-refused_few n (r ∷ rs) = omega (arith, refused_few n rs, one_few (faults_as n r.outcome))
+refused_more n rs r = sum_by_push (λ q. one (faults_as n q.outcome)) rs r
 
 module _ {m : BTreeMap ℕ Refusals} where
   pub none_tabled : IsEmpty m → IsOrdered nat_cmp m → Tabled [] m
-  unfolding refused_as
   none_tabled empty ordered =
       let none : (n : ℕ) → entry_at m n ≡ None = λ n. rw empty refl in
       record {
         ordered = ordered;
         counts = λ n. ap times_in (none n);
-        alike = λ n. subst (λ o. IfSome o (λ e. number_of e.fault ≡ n)) (sym (none n)) tt;
+        alike = λ n. rw (none n) tt;
       }
 
   pub times_few : {rs : List Reply} (n : ℕ) → Tabled rs m → times_in (entry_at m n) ≤ length rs
-  times_few {rs} n h = omega (arith, h.counts n, refused_few n rs)
+  times_few {rs} n h = omega (arith, h.counts n, count_by-le-length (λ q. faults_as n q.outcome) rs)
 
   pub accepted_tabled : {rs : List Reply} (r : Reply) (a : ℕ) → r.outcome ≡ Ok a → Tabled rs m → Tabled (rs ++ (r ∷ [])) m
   accepted_tabled {rs} r a e h = record {
@@ -53,26 +37,18 @@ module _ {m : BTreeMap ℕ Refusals} where
 
 module _ {m n : BTreeMap ℕ Refusals} {f : Fault} {rs : List Reply} (old : Tabled rs m) (new : OneMore m f n) where
   counted : (q : ℕ) (b : Bool) → eqb q (number_of f) ≡ b → times_in (entry_at n q) ≡ refused_as q rs + one b
-  counted q true e =
-      let here : q ≡ number_of f = eqb-true q (number_of f) e in
-      ap (λ k. times_in (entry_at n k)) here ∙ ap times_in new.here ∙ ap (λ k. k + 1) (old.counts (number_of f)) ∙ ap (λ k. refused_as k rs + 1) (sym here)
-  counted q false e =
-      let same : entry_at n q ≡ entry_at m q = new.other q (eqb-false q (number_of f) e) in
-      omega (arith, ap times_in same, old.counts q)
+  counted q true e = let here : q ≡ number_of f = eqb-true q (number_of f) e in rw here (rw new.here (omega (arith, old.counts (number_of f))))
+  counted q false e = rw (new.other q (eqb-false q (number_of f) e)) (omega (arith, old.counts q))
 
   alike_after : (q : ℕ) (b : Bool) → eqb q (number_of f) ≡ b → IfSome (entry_at n q) (λ e. number_of e.fault ≡ q)
-  alike_after q true e =
-      let here : q ≡ number_of f = eqb-true q (number_of f) e in
-      subst (λ k. IfSome (entry_at n k) (λ x. number_of x.fault ≡ k)) (sym here) (subst (λ o. IfSome o (λ x. number_of x.fault ≡ number_of f)) (sym new.here) refl)
-  alike_after q false e =
-      subst (λ o. IfSome o (λ x. number_of x.fault ≡ q)) (sym (new.other q (eqb-false q (number_of f) e))) (old.alike q)
+  alike_after q true e = let here : q ≡ number_of f = eqb-true q (number_of f) e in rw here (rw new.here refl)
+  alike_after q false e = rw (new.other q (eqb-false q (number_of f) e)) (old.alike q)
 
   pub refused_tabled : (r : Reply) → r.outcome ≡ Err f → Tabled (rs ++ (r ∷ [])) n
   refused_tabled r e = record {
     ordered = new.ordered;
-    counts = λ q.
-        counted q (eqb q (number_of f)) refl
-        ∙ ap (λ o. refused_as q rs + one (faults_as q o)) (sym e)
-        ∙ sym (refused_more q rs r);
+    counts = λ q. rw (refused_more q rs r) (rw e (counted q (eqb q (number_of f)) refl));
     alike = λ q. alike_after q (eqb q (number_of f)) refl;
   }
+
+pub ruleset tabling = (none_tabled, times_few, accepted_tabled, refused_tabled)

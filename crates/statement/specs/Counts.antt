@@ -1,5 +1,5 @@
 -- Counts of replies and of pages.
-use Rattle.std.specs.Prelude.{ℕ, zero, suc, ◌+◌, Bool, false, cond, List, [], ◌∷◌, is_ok, Ok, Err, Result, ◌==◌}
+use Rattle.std.specs.Prelude.{ℕ, zero, suc, ◌+◌, Bool, false, cond, List, is_ok, Ok, Err, Result, count_by, ◌==◌}
 use Rattle.model.specs.declared.fault.Fault.{Fault}
 use Rattle.model.specs.Faults.{number_of}
 use Rattle.script.specs.declared.answer.Reply.{Reply}
@@ -11,9 +11,8 @@ abbrev pub one : Bool → ℕ
 one b = cond b 1 0
 
 -- how many of the replies accept their record
-unfoldable pub accepted_in : List Reply → ℕ
-accepted_in [] = 0
-accepted_in (r ∷ rs) = one (is_ok r.outcome) + accepted_in rs
+abbrev pub accepted_in : List Reply → ℕ
+accepted_in rs = count_by (λ r. is_ok r.outcome) rs
 
 -- whether an outcome is a fault of this number
 abbrev pub faults_as : ℕ → Result ℕ Fault → Bool
@@ -21,9 +20,8 @@ faults_as n (Ok a) = false
 faults_as n (Err f) = n == number_of f
 
 -- how many of the replies are faults of this number
-unfoldable pub refused_as : ℕ → List Reply → ℕ
-refused_as n [] = 0
-refused_as n (r ∷ rs) = one (faults_as n r.outcome) + refused_as n rs
+abbrev pub refused_as : ℕ → List Reply → ℕ
+refused_as n rs = count_by (λ r. faults_as n r.outcome) rs
 
 -- how many numbers below n pass
 unfoldable pub count_below : ℕ → (ℕ → Bool) → ℕ

@@ -1,5 +1,6 @@
 pub mod Sights
 pub mod Told
 pub mod Phrases
+pub mod Words
 pub mod Counts
 pub mod Tables

@@ -28,12 +28,10 @@ seen_at st page = sight_told (look_answer_of page st)
 
 -- whether a page was seen to be mapped
 abbrev pub is_mapped : Sight → Bool
-is_mapped Vacant = false
 is_mapped (Mapped label frame) = true
-is_mapped (Closing owner label frame) = false
+is_mapped _ = false
 
 -- whether a page was seen to be closing
 abbrev pub is_closing : Sight → Bool
-is_closing Vacant = false
-is_closing (Mapped label frame) = false
 is_closing (Closing owner label frame) = true
+is_closing _ = false

@@ -1,7 +1,7 @@
 -- What is told of a record and of its reply.
 use Rattle.std.specs.Prelude.{ℕ, cond, List, length, Ok, Err, Result, nat_lt}
 use Rattle.model.specs.declared.call.Call.{Call}
-use Rattle.model.specs.declared.call.Call.TheVariants.{SetUp, Map, Touch, Share, Begin, Acknowledge, Finish, Flush, Look}
+use Rattle.model.specs.declared.call.Call.TheVariants.{Look}
 use Rattle.model.specs.declared.fault.Fault.{Fault}
 use Rattle.script.specs.declared.answer.Reply.{Reply}
 use Rattle.script.specs.Records.{decoded}
@@ -22,21 +22,11 @@ asked_by bytes reply = cond (nat_lt (length bytes) 16) (asks.Rest (length bytes)
 
 -- what an accepted call is told to have answered; a look tells what is seen
 abbrev pub answer_of : Call → ℕ → Outcome
-answer_of (SetUp cores frames nodes epoch) n = Answer n
-answer_of (Map core label first count) n = Answer n
-answer_of (Touch core page) n = Answer n
-answer_of (Share core source target) n = Answer n
-answer_of (Begin core first count) n = Answer n
-answer_of (Acknowledge core owner) n = Answer n
-answer_of (Finish core) n = Answer n
-answer_of (Flush core) n = Answer n
 answer_of (Look page) n = Seen n (sight_of n)
+answer_of _ n = Answer n
 
 -- what is told of an outcome
 abbrev pub outcome_of : Asked → Result ℕ Fault → Outcome
 outcome_of (asks.Call call) (Ok n) = answer_of call n
-outcome_of (asks.Unclear kind core) (Ok n) = Answer n
-outcome_of (asks.Rest count) (Ok n) = Answer n
-outcome_of (asks.Call call) (Err e) = Refused e
-outcome_of (asks.Unclear kind core) (Err e) = Refused e
-outcome_of (asks.Rest count) (Err e) = Refused e
+outcome_of _ (Ok n) = Answer n
+outcome_of _ (Err e) = Refused e

@@ -4,6 +4,7 @@ ghost use Rattle.statement.specs.Told.{asked_by};
 use model::call::Call;
 use script::answer::Reply;
 use script::record::read;
+use std::fmt;
 
 /// The bytes of a record.
 pub const RECORD: usize = 16;
@@ -32,6 +33,17 @@ impl Asked {
                 kind: reply.kind,
                 core: reply.core,
             },
+        }
+    }
+}
+
+impl fmt::Display for Asked {
+    fn fmt<W: fmt::Write>(&self, f: &mut fmt::Formatter<W>) -> fmt::Result {
+        match *self {
+            Asked::Call(call) => write!(f, "{call}"),
+            Asked::Unclear { kind, core } => write!(f, "record of kind {kind}, core {core}"),
+            Asked::Rest(1) => write!(f, "rest of 1 byte"),
+            Asked::Rest(count) => write!(f, "rest of {count} bytes"),
         }
     }
 }

@@ -1,8 +1,9 @@
-// What is told of a script that was played: its records, their outcomes and the summary. Printing is left to the program.
+// What is told of a script that was played, in words: its records, their outcomes and the summary.
 #![tactic(auto)]
 
 pub mod asked;
 pub mod outcome;
 pub mod phrases;
 pub mod sight;
+pub mod statement;
 pub mod summary;

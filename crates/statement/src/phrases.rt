@@ -1,6 +1,6 @@
 // The words for faults and parts.
 ghost use Rattle.std.specs.Prelude.{◌≡◌};
-ghost use Rattle.statement.specs.Phrases.{reason_words, tree_words, space_words, fault_words, part_words};
+ghost use Rattle.statement.specs.Phrases.{reason_words, fault_words, part_words};
 
 use model::fault::{Fault, Part, Reason, SpaceFault, TreeFault};
 
@@ -9,26 +9,10 @@ pub fn fault_words(fault: Fault) -> &'static str
     ensures { result.now ≡ fault_words fault }
 {
     match fault {
-        Fault::Space(fault) => space_words(fault),
+        Fault::Space(SpaceFault::Refused { reason, .. }) => reason_words(reason),
+        Fault::Space(SpaceFault::Tree(TreeFault::Pool(_))) => "no free frame",
+        Fault::Space(SpaceFault::Tree(TreeFault::TooFewNodes { .. })) => "too few free nodes",
         Fault::BadRecord => "bad record",
-    }
-}
-
-fn space_words(fault: SpaceFault) -> &'static str
-    ensures { result.now ≡ space_words fault }
-{
-    match fault {
-        SpaceFault::Tree(fault) => tree_words(fault),
-        SpaceFault::Refused { reason, place: _ } => reason_words(reason),
-    }
-}
-
-fn tree_words(fault: TreeFault) -> &'static str
-    ensures { result.now ≡ tree_words fault }
-{
-    match fault {
-        TreeFault::Pool(_) => "no free frame",
-        TreeFault::TooFewNodes { place: _ } => "too few free nodes",
     }
 }
 

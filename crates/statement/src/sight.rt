@@ -1,5 +1,8 @@
-ghost use Rattle.std.specs.Prelude.{◌≡◌};
+ghost use Rattle.std.specs.Prelude.{◌≡◌, Some};
 ghost use Rattle.statement.specs.Sights.{frame_told, sight_of};
+ghost use Rattle.statement.specs.Words.{sight_words};
+
+use std::fmt;
 
 /// What an accepted look tells of a page.
 #[derive(Clone, Copy)]
@@ -16,11 +19,11 @@ pub enum Sight {
     },
 }
 
-impl Sight {
-    /// Reads a look's answer: label + 256 × frame + 16,777,216 × (owner + 1), an absent part counting 0.
-    pub fn of(answer: u32) -> Sight
-        ensures { result ≡ sight_of answer }
-    {
+/// Reads a look's answer: label + 256 × frame + 16,777,216 × (owner + 1), an absent part counting 0.
+impl From<u32> for Sight {
+    ghost from_gives = { λ a r. r ≡ sight_of a };
+
+    fn from(answer: u32) -> Sight {
         if answer == 0 {
             return Sight::Vacant;
         }
@@ -42,8 +45,33 @@ impl Sight {
 fn frame_told(number: u16) -> Option<u16>
     ensures { result ≡ frame_told number }
 {
-    if number == 0 {
-        return None;
+    (number != 0).then_some(number)
+}
+
+impl fmt::Display for Sight {
+    ghost output = { λ s. Some (sight_words s) };
+
+    fn fmt<W: fmt::Write>(&self, f: &mut fmt::Formatter<W>) -> fmt::Result {
+        match *self {
+            Sight::Vacant => write!(f, "vacant"),
+            Sight::Mapped { label, frame: None } => write!(f, "mapped, label {label}"),
+            Sight::Mapped {
+                label,
+                frame: Some(frame),
+            } => write!(f, "mapped, label {label}, frame {frame}"),
+            Sight::Closing {
+                owner,
+                label,
+                frame: None,
+            } => write!(f, "closing under core {owner}, label {label}"),
+            Sight::Closing {
+                owner,
+                label,
+                frame: Some(frame),
+            } => write!(
+                f,
+                "closing under core {owner}, label {label}, frame {frame}"
+            ),
+        }
     }
-    Some(number)
 }

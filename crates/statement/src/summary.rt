@@ -1,10 +1,12 @@
 ghost use Rattle.std.specs.Prelude.{◌≡◌, ◌+◌, ◌^◌, ◌<◌, length, IfOk, OnOk};
-ghost use Rattle.space.specs.Memories.{memory_state, in_use};
+ghost use Rattle.space.specs.Memories.{memory_state};
+ghost use Rattle.tree.specs.Pools.{in_use};
 ghost use Rattle.model.specs.Faults.{number_of};
 ghost use Rattle.statement.specs.Sights.{seen_at, is_mapped, is_closing};
 ghost use Rattle.statement.specs.Counts.{one, accepted_in, count_below, mapped_at, closing_at};
 ghost use Rattle.statement.specs.Tables.{times_in, entry_at, OneMore, Tabled};
 
+use super::phrases::fault_words;
 use super::sight::Sight;
 use model::fault::Fault;
 use model::page::{Epoch, Page};
@@ -13,6 +15,7 @@ use script::answer::Reply;
 use space::memory::Memory;
 use std::alloc::{AllocError, Global};
 use std::collections::BTreeMap;
+use std::fmt;
 
 /// What came of a whole script, and what the memory is after it.
 #[derive(Drop)]
@@ -78,36 +81,16 @@ impl Tally {
         ensures accepted { result.accepted ≡ accepted_in replies.now }
         ensures all { result.accepted + result.refused ≡ length replies.now }
     {
-        let mut tally = Tally {
-            accepted: 0,
-            refused: 0,
-        };
-        for reply in replies {
-            tally = tally.with(reply.outcome.is_ok());
-        }
-        tally
-    }
-
-    // The tally with one record more.
-    fn with(self, accepted: bool) -> Tally
-        requires { self.accepted + self.refused < 18446744073709551615 }
-        ensures accepted { result.accepted ≡ self.accepted + one accepted }
-        ensures all { result.accepted + result.refused ≡ self.accepted + self.refused + 1 }
-    {
-        if accepted {
-            return Tally {
-                accepted: self.accepted + 1,
-                refused: self.refused,
-            };
-        }
+        let accepted = replies.iter().filter(|reply| reply.outcome.is_ok()).count();
         Tally {
-            accepted: self.accepted,
-            refused: self.refused + 1,
+            accepted,
+            refused: replies.len() - accepted,
         }
     }
 }
 
 // Refusals by the numbers of their faults.
+#[tactic(auto, using(crate::proofs::Tabling::tabling))]
 fn refusals_by_number(heap: Global, replies: &[Reply]) -> Result<BTreeMap<u8, Refusals>, AllocError>
     ensures { IfOk result (λ m. Tabled replies.now m) }
 {
@@ -125,23 +108,19 @@ fn count_refusal(refusals: &mut BTreeMap<u8, Refusals>, fault: Fault) -> Result<
     requires room { times_in (entry_at refusals.old (number_of fault)) + 1 < 2 ^ 64 }
     ensures { OnOk result (OneMore refusals.old fault refusals.new) }
 {
-    let number = fault.number();
-    let before = match refusals.get(&number) {
-        Some(alike) => alike.count,
-        None => 0,
+    let alike = refusals
+        .entry(fault.number())?
+        .or_insert(Refusals { fault, count: 0 });
+    *alike = Refusals {
+        fault,
+        count: alike.count + 1,
     };
-    refusals.insert(
-        number,
-        Refusals {
-            fault,
-            count: before + 1,
-        },
-    )?;
     Ok(())
 }
 
 impl Census {
-    // Looks at every page once.
+    // Looks at every page once. In a fold the proof that the counts stay below the number of pages does not close.
+    #[tactic(auto, using(crate::proofs::Counting::counting))]
     fn of(memory: &Memory) -> Census
         ensures mapped { result.mapped ≡ count_below 262144 (mapped_at (memory_state memory.now)) }
         ensures closing { result.closing ≡ count_below 262144 (closing_at (memory_state memory.now)) }
@@ -163,20 +142,15 @@ impl Census {
         ensures closing { result.closing ≡ self.closing + one (is_closing sight) }
         ensures most { result.mapped + result.closing < self.mapped + self.closing + 2 }
     {
-        let Census { mapped, closing } = self;
         match sight {
             Sight::Vacant => self,
-            Sight::Mapped { label: _, frame: _ } => Census {
-                mapped: mapped + 1,
-                closing,
+            Sight::Mapped { .. } => Census {
+                mapped: self.mapped + 1,
+                ..self
             },
-            Sight::Closing {
-                owner: _,
-                label: _,
-                frame: _,
-            } => Census {
-                mapped,
-                closing: closing + 1,
+            Sight::Closing { .. } => Census {
+                closing: self.closing + 1,
+                ..self
             },
         }
     }
@@ -186,8 +160,31 @@ impl Census {
 fn seen(memory: &Memory, page: Page) -> Sight
     ensures { result ≡ seen_at (memory_state memory.now) page }
 {
-    match memory.look(page) {
-        Ok(answer) => Sight::of(answer),
-        Err(_) => Sight::Vacant,
+    memory.look(page).map_or(Sight::Vacant, Sight::from)
+}
+
+impl fmt::Display for Summary {
+    fn fmt<W: fmt::Write>(&self, f: &mut fmt::Formatter<W>) -> fmt::Result {
+        let Summary {
+            records,
+            tally: Tally { accepted, refused },
+            refusals,
+            census: Census { mapped, closing },
+            frames,
+            nodes,
+            epoch,
+        } = self;
+        writeln!(f, "records: {records}")?;
+        writeln!(f, "accepted: {accepted}")?;
+        writeln!(f, "refused: {refused}")?;
+        for (number, alike) in refusals.iter() {
+            let why = fault_words(alike.fault);
+            writeln!(f, "  fault {number}, {why}: {}", alike.count)?;
+        }
+        writeln!(f, "pages mapped: {mapped}")?;
+        writeln!(f, "pages closing: {closing}")?;
+        writeln!(f, "frames in use: {frames}")?;
+        writeln!(f, "nodes in use: {nodes}, the root among them")?;
+        writeln!(f, "epoch: {epoch}")
     }
 }

@@ -1,6 +1,6 @@
 -- A fill, step by step, is what its definition says.
-use Rattle.std.proofs.Common.{◌≡◌, ℕ, suc, ◌+◌, ◌-◌, ◌*◌, ◌/◌, ◌%◌, ◌<◌, ◌≤◌, min, Bool, true, false, eqb, ltb, List, [], ◌∷◌, ◌++◌, sym, ap, ◌∙◌, ⊎_elim, arith}
-use Rattle.std.proofs.lemmas.Bool.{cases_eq, lt-ltb, le-ltb, eq-eqb, cond-true, cond-false}
+use Rattle.std.proofs.Common.{◌≡◌, ℕ, suc, ◌+◌, ◌-◌, ◌*◌, ◌/◌, ◌%◌, ◌<◌, ◌≤◌, max, min, Bool, true, false, eqb, ltb, List, [], ◌∷◌, ◌++◌, sym, ap, ◌∙◌, subst, arith}
+use Rattle.std.proofs.lemmas.Bool.{lt-ltb, eq-eqb, cond-true, cond-false}
 use Rattle.model.specs.declared.page.Mapping.{Mapping}
 use Rattle.counter.specs.Meaning.{Operation}
 use Rattle.counter.specs.Meaning.Operation.{Give, Revive}
@@ -11,7 +11,9 @@ use Rattle.tree.specs.Pools.{next_object}
 use Rattle.tree.specs.Nodes.{slot_at}
 use Rattle.tree.specs.Changes.{written, grown}
 use Rattle.tree.specs.Need.{covers}
-use Rattle.tree.specs.Fill.{blocks_met, part_start, part_stop, fill_leaf, fill_block_by, fill_block, fill_blocks, fill_middle, fill_top_by, fill_top, fill_tops, gain, revivals, told_block_by, told_block, told_blocks, told_middle, told_top_by, told_top, told_tops}
+use Rattle.tree.specs.Holders.{Follows}
+use Rattle.tree.specs.Fill.{blocks_met, part_start, part_stop, walk, told_walk, fill_leaf, fill_block_by, fill_block, fill_middle, fill_top_by, fill_top, gain, revivals, told_block_by, told_block, told_middle, told_top_by, told_top}
+use Rattle.tree.proofs.Counting.{follows_none, follows_then}
 
 -- a leaf
 module _ (n first : ℕ) (e : Mapping) (t : Tree) where
@@ -75,77 +77,81 @@ pub open_vacant : (x : Slot) (len size : ℕ) → x ≡ Vacant → false ≡ cov
 open_vacant x len size was c = sym (c ∙ ap (λ (y : Slot). covers y len size) was)
 
 -- how many blocks are met
-pub met_none : (size first last : ℕ) → last ≤ first → blocks_met size first last ≡ 0
-unfolding blocks_met
-met_none size first last h = cond-false (ltb first last) ((last - 1) / size + 1 - first / size) 0 (le-ltb first last h)
-
-pub met_some : (size first last : ℕ) → first < last → blocks_met size first last ≡ (last - 1) / size + 1 - first / size
+met_some : (size first last : ℕ) → first < last → blocks_met size first last ≡ (last - 1) / size + 1 - first / size
 unfolding blocks_met
 met_some size first last h = cond-true (ltb first last) ((last - 1) / size + 1 - first / size) 0 (lt-ltb first last h)
 
--- a turn from `at` to `stop` does the next block
-pub record Turn (size first last at stop : ℕ) : Type 0 where
-  pub one : blocks_met size first stop ≡ suc (blocks_met size first at)
-  pub from : part_start size first (blocks_met size first at) ≡ at
-  pub to : part_stop size first last (blocks_met size first at) ≡ stop
+-- a turn takes the next block, in which the range has the pages from a and below z
+pub record Turn (size first last block a z : ℕ) : Type 0 where
+  pub one : block + 1 - first / size ≡ suc (block - first / size)
+  pub from : part_start size first (block - first / size) ≡ a
+  pub to : part_stop size first last (block - first / size) ≡ z
 
-pub turn_64 : (first last at stop : ℕ) → first ≤ at → at < last → (first < at → at % 64 ≡ 0) → stop ≡ min last (at / 64 * 64 + 64) → Turn 64 first last at stop
-turn_64 first last at stop lo hi even is = ⊎_elim
-    (λ (e : at ≡ first).
-    let z = met_none 64 first at (omega arith) in
-    let s = met_some 64 first stop (omega arith) in
-    record { one = omega (arith, z, s, is, e); from = omega (arith, z, e); to = omega (arith, z, is, e) })
-    (λ (ne : at ≡ first → ⊥).
-    let lt : first < at = omega arith in
-    let z = met_some 64 first at lt in
-    let s = met_some 64 first stop (omega arith) in
-    let v = even lt in
-    record { one = omega (arith, z, s, is, v); from = omega (arith, z, v); to = omega (arith, z, is, v) })
-    (cases_eq at first)
+-- where the range's pages before a block end
+abbrev pub reached : ℕ → ℕ → ℕ → ℕ → ℕ
+reached size first last block = min last (max first (block * size))
 
-pub turn_4096 : (first last at stop : ℕ) → first ≤ at → at < last → (first < at → at % 4096 ≡ 0) → stop ≡ min last (at / 4096 * 4096 + 4096) → Turn 4096 first last at stop
-turn_4096 first last at stop lo hi even is = ⊎_elim
-    (λ (e : at ≡ first).
-    let z = met_none 4096 first at (omega arith) in
-    let s = met_some 4096 first stop (omega arith) in
-    record { one = omega (arith, z, s, is, e); from = omega (arith, z, e); to = omega (arith, z, is, e) })
-    (λ (ne : at ≡ first → ⊥).
-    let lt : first < at = omega arith in
-    let z = met_some 4096 first at lt in
-    let s = met_some 4096 first stop (omega arith) in
-    let v = even lt in
-    record { one = omega (arith, z, s, is, v); from = omega (arith, z, v); to = omega (arith, z, is, v) })
-    (cases_eq at first)
+after : (q block : ℕ) → q ≤ block → (block + 1 - q ≡ suc (block - q)) × (q + (block - q) ≡ block)
+after q block h = (omega (arith, h), omega (arith, h))
 
--- the turns under a middle node
-module _ (m first last : ℕ) (e : Mapping) (old : Tree) where
-  pub blocks_start : old ≡ fill_blocks m first last e (blocks_met 64 first first) old
-  unfolding fill_blocks
-  blocks_start = ap (λ (k : ℕ). fill_blocks m first last e k old) (sym (met_none 64 first first (omega arith)))
+pub turn : (size first last block a z : ℕ) → first / size ≤ block → a ≡ max first (block * size) → z ≡ min last (block * size + size) → Turn size first last block a z
+turn size first last block a z h from to =
+    let e = after (first / size) block h in
+    record {
+      one = e.0;
+      from = ap (λ (b : ℕ). max first (b * size)) e.1 ∙ sym from;
+      to = ap (λ (b : ℕ). min last (b * size + size)) e.1 ∙ sym to;
+    }
 
-  pub blocks_turn : (at stop : ℕ) (now new : Tree) → Turn 64 first last at stop → now ≡ fill_blocks m first last e (blocks_met 64 first at) old →
-      new ≡ fill_block m at stop e now → new ≡ fill_blocks m first last e (blocks_met 64 first stop) old
-  unfolding fill_blocks
-  blocks_turn at stop now new t is step =
-      step ∙ ap (fill_block m at stop e) is
-      ∙ ap (λ (x : ℕ). fill_block m x stop e (fill_blocks m first last e (blocks_met 64 first at) old)) (sym t.from)
-      ∙ ap (λ (x : ℕ). fill_block m (part_start 64 first (blocks_met 64 first at)) x e (fill_blocks m first last e (blocks_met 64 first at) old)) (sym t.to)
-      ∙ ap (λ (k : ℕ). fill_blocks m first last e k old) (sym t.one)
+none_yet : (q block : ℕ) → block ≡ q → block - q ≡ 0
+none_yet q block e = omega (arith, e)
 
-  module _ (older : Bool) (core : ℕ) where
-    pub told_blocks_start : told_blocks older core m first last e (blocks_met 64 first first) old ≡ []
-    unfolding told_blocks
-    told_blocks_start = ap (λ (k : ℕ). told_blocks older core m first last e k old) (met_none 64 first first (omega arith))
+module _ (size : ℕ) (step : ℕ → ℕ → Tree → Tree) (first last : ℕ) (old : Tree) where
+  pub walk_start : (block : ℕ) → block ≡ first / size → old ≡ walk size step first last (block - first / size) old
+  unfolding walk
+  walk_start block e = ap (λ (k : ℕ). walk size step first last k old) (sym (none_yet (first / size) block e))
 
-    pub told_blocks_turn : (at stop : ℕ) (now : Tree) → Turn 64 first last at stop → now ≡ fill_blocks m first last e (blocks_met 64 first at) old →
-        told_blocks older core m first last e (blocks_met 64 first stop) old ≡ told_blocks older core m first last e (blocks_met 64 first at) old ++ told_block older core m at stop now
-    unfolding told_blocks
-    told_blocks_turn at stop now t is =
-        let k = blocks_met 64 first at in
-        ap (λ (j : ℕ). told_blocks older core m first last e j old) t.one
-        ∙ ap (λ (x : ℕ). told_blocks older core m first last e k old ++ told_block older core m x (part_stop 64 first last k) (fill_blocks m first last e k old)) t.from
-        ∙ ap (λ (x : ℕ). told_blocks older core m first last e k old ++ told_block older core m at x (fill_blocks m first last e k old)) t.to
-        ∙ ap (λ (u : Tree). told_blocks older core m first last e k old ++ told_block older core m at stop u) (sym is)
+  pub walk_turn : (block a z : ℕ) (now new : Tree) → Turn size first last block a z → now ≡ walk size step first last (block - first / size) old →
+      new ≡ step a z now → new ≡ walk size step first last (block + 1 - first / size) old
+  unfolding walk
+  walk_turn block a z now new t is made =
+      let far = walk size step first last (block - first / size) old in
+      made ∙ ap (step a z) is
+      ∙ ap (λ (x : ℕ). step x z far) (sym t.from)
+      ∙ ap (λ (x : ℕ). step (part_start size first (block - first / size)) x far) (sym t.to)
+      ∙ ap (λ (k : ℕ). walk size step first last k old) (sym t.one)
+
+  met : (block : ℕ) → first < last → block ≡ (last - 1) / size + 1 → block - first / size ≡ blocks_met size first last
+  met block h e = ap (λ (b : ℕ). b - first / size) e ∙ sym (met_some size first last h)
+
+  pub walk_end : (block : ℕ) (now : Tree) → first < last → block ≡ (last - 1) / size + 1 → now ≡ walk size step first last (block - first / size) old →
+      now ≡ walk size step first last (blocks_met size first last) old
+  walk_end block now h e is = is ∙ ap (λ (k : ℕ). walk size step first last k old) (met block h e)
+
+  -- what is told of it
+  module _ {S : Type 0} (steps : S → Operation → S → Type 0) (says : ℕ → ℕ → Tree → List Operation) (s : S) where
+    pub told_start : (block : ℕ) → block ≡ first / size → Follows steps (told_walk size step says first last (block - first / size) old) s s
+    unfolding told_walk
+    told_start block e =
+        subst (λ (k : ℕ). Follows steps (told_walk size step says first last k old) s s) (sym (none_yet (first / size) block e)) (follows_none steps s)
+
+    pub told_turn : (block a z : ℕ) (now : Tree) (u t : S) → Turn size first last block a z → now ≡ walk size step first last (block - first / size) old →
+        Follows steps (told_walk size step says first last (block - first / size) old) s u → Follows steps (says a z now) u t →
+        Follows steps (told_walk size step says first last (block + 1 - first / size) old) s t
+    unfolding told_walk
+    told_turn block a z now u t turn is before here =
+        let k = block - first / size in
+        let far = walk size step first last k old in
+        let more : told_walk size step says first last (block + 1 - first / size) old ≡ told_walk size step says first last k old ++ says a z now =
+        ap (λ (j : ℕ). told_walk size step says first last j old) turn.one
+        ∙ ap (λ (x : ℕ). told_walk size step says first last k old ++ says x (part_stop size first last k) far) turn.from
+        ∙ ap (λ (x : ℕ). told_walk size step says first last k old ++ says a x far) turn.to
+        ∙ ap (λ (v : Tree). told_walk size step says first last k old ++ says a z v) (sym is) in
+        subst (λ (os : List Operation). Follows steps os s t) (sym more) (follows_then steps (told_walk size step says first last k old) (says a z now) s u t before here)
+
+    pub told_end : (block : ℕ) (t : S) → first < last → block ≡ (last - 1) / size + 1 → Follows steps (told_walk size step says first last (block - first / size) old) s t →
+        Follows steps (told_walk size step says first last (blocks_met size first last) old) s t
+    told_end block t h e = subst (λ (k : ℕ). Follows steps (told_walk size step says first last k old) s t) (met block h e)
 
 -- a slot of the root
 module _ (first last : ℕ) (e : Mapping) (t : Tree) where
@@ -189,33 +195,3 @@ module _ (first last : ℕ) (e : Mapping) (t : Tree) where
     pub told_top_child : (m : ℕ) → slot_at t.slots 1 (first / 4096) ≡ Child m → told_top core first last e t ≡ told_middle true core m first last e t
     unfolding told_top
     told_top_child m was = ap (λ (x : Slot). told_top_by x core first last e t) was
-
--- the turns under the root
-module _ (first last : ℕ) (e : Mapping) (old : Tree) where
-  pub tops_start : old ≡ fill_tops first last e (blocks_met 4096 first first) old
-  unfolding fill_tops
-  tops_start = ap (λ (k : ℕ). fill_tops first last e k old) (sym (met_none 4096 first first (omega arith)))
-
-  pub tops_turn : (at stop : ℕ) (now new : Tree) → Turn 4096 first last at stop → now ≡ fill_tops first last e (blocks_met 4096 first at) old →
-      new ≡ fill_top at stop e now → new ≡ fill_tops first last e (blocks_met 4096 first stop) old
-  unfolding fill_tops
-  tops_turn at stop now new t is step =
-      step ∙ ap (fill_top at stop e) is
-      ∙ ap (λ (x : ℕ). fill_top x stop e (fill_tops first last e (blocks_met 4096 first at) old)) (sym t.from)
-      ∙ ap (λ (x : ℕ). fill_top (part_start 4096 first (blocks_met 4096 first at)) x e (fill_tops first last e (blocks_met 4096 first at) old)) (sym t.to)
-      ∙ ap (λ (k : ℕ). fill_tops first last e k old) (sym t.one)
-
-  module _ (core : ℕ) where
-    pub told_tops_start : told_tops core first last e (blocks_met 4096 first first) old ≡ []
-    unfolding told_tops
-    told_tops_start = ap (λ (k : ℕ). told_tops core first last e k old) (met_none 4096 first first (omega arith))
-
-    pub told_tops_turn : (at stop : ℕ) (now : Tree) → Turn 4096 first last at stop → now ≡ fill_tops first last e (blocks_met 4096 first at) old →
-        told_tops core first last e (blocks_met 4096 first stop) old ≡ told_tops core first last e (blocks_met 4096 first at) old ++ told_top core at stop e now
-    unfolding told_tops
-    told_tops_turn at stop now t is =
-        let k = blocks_met 4096 first at in
-        ap (λ (j : ℕ). told_tops core first last e j old) t.one
-        ∙ ap (λ (x : ℕ). told_tops core first last e k old ++ told_top core x (part_stop 4096 first last k) e (fill_tops first last e k old)) t.from
-        ∙ ap (λ (x : ℕ). told_tops core first last e k old ++ told_top core at x e (fill_tops first last e k old)) t.to
-        ∙ ap (λ (u : Tree). told_tops core first last e k old ++ told_top core at stop e u) (sym is)

@@ -12,7 +12,7 @@ use Rattle.model.specs.Pages.{Within}
 use Rattle.tree.specs.Soundness.{Linked, Pooled, Sound, left}
 use Rattle.tree.specs.Walks.{Put, Hung, Keeps}
 use Rattle.tree.specs.Filled.{Filled}
-use Rattle.tree.specs.Walks.{Others, Entered}
+use Rattle.tree.specs.Walks.{Entered}
 use Rattle.tree.specs.Need.{vacancy}
 use Rattle.tree.proofs.Places.{put_same, put_other}
 use Rattle.tree.proofs.Blocks.{level_2, level_3, leaf_here, leaf_rest, mid_here, mid_rest, root_here, root_rest}
@@ -45,11 +45,6 @@ filled_then a b c e old mid new ab bc f g = record {
   levels = λ n h. g.levels n (subst (λ (u : Link). 0 < u.level) (sym (f.levels n h)) h) ∙ f.levels n h;
   size = g.size ∙ f.size;
 }
-
-pub others_then : (P Q : ℕ → ℕ → Type 0) (old mid new : Tree) → ((n : ℕ) → 0 < (link_at old.links n).level → link_at mid.links n ≡ link_at old.links n) →
-    ((a t : ℕ) → P a t → Q a t) → Others P old mid → Others Q mid new → Others P old new
-others_then P Q old mid new levels to f g a t ht live p =
-    g a t ht (subst (λ (u : Link). 0 < u.level) (sym (levels a live)) live) (to a t p) ∙ f a t ht live p
 
 -- one slot of a live node is written
 module _ (old new : Tree) (ok : Sound old) (n s : ℕ) (e : Mapping) (w : Put n s e old new) (hs : s < 64)

@@ -16,7 +16,7 @@ use Rattle.tree.specs.Walks.{Others, LeafOf, Entered}
 use Rattle.tree.specs.Holders.{taken, holders}
 use Rattle.tree.proofs.Holding.{holders_gain}
 use Rattle.tree.proofs.Blocks.{level_2, level_3}
-use Rattle.tree.proofs.Filling.{filled_then, leaf_filled, mid_filled, put_rest, put_here, put_left, entered_filled}
+use Rattle.tree.proofs.Filling.{filled_then, leaf_filled, mid_filled, put_rest, put_here, put_left}
 
 pub path_shows : (xs : List Slot) (p m n : ℕ) → slot_at xs 1 (p / 4096) ≡ Child m → slot_at xs m (p / 64 % 64) ≡ Child n → slot_of xs p ≡ slot_at xs n (p % 64)
 path_shows xs p m n a b =
@@ -69,11 +69,7 @@ part_open x len h = ap (λ (b : Bool). cond b 0 (vacancy x)) (sym h)
 pub not_both : {x : Slot} (e : Mapping) → x ≡ Vacant → x ≡ Value e → ⊥
 not_both e p q = let z : ◌≡◌ {A = ℕ} 0 1 = cc in omega arith
 
--- no value stands over a page that slot_of nothing
-pub mid_open : (xs : List Slot) (p m : ℕ) → slot_at xs 1 (p / 4096) ≡ Child m → slot_of xs p ≡ Vacant → (e : Mapping) → slot_at xs m (p / 64 % 64) ≡ Value e → ⊥
-mid_open xs p m a v e h = not_both e v
-    (ap (λ (u : Slot). down xs (down xs u (p / 64 % 64)) (p % 64)) a ∙ ap (λ (v : Slot). down xs v (p % 64)) h)
-
+-- no value stands over a vacant page
 pub root_open : (xs : List Slot) (p : ℕ) → slot_of xs p ≡ Vacant → (e : Mapping) → slot_at xs 1 (p / 4096) ≡ Value e → ⊥
 root_open xs p v e h = not_both e v (ap (λ (u : Slot). down xs (down xs u (p / 64 % 64)) (p % 64)) h)
 
@@ -103,9 +99,6 @@ module _ (old : Tree) (m first last : ℕ) (e : Mapping) (ok : Sound old) (some 
 
   module _ (mid new : Tree) (n : ℕ) (c : false ≡ covers (slot_at old.slots m (first / 64 % 64)) (last - first) 64)
       (i : Entered m (first / 64 % 64) n old mid) (f : Filled first last e mid new) (fl : left new ≡ left mid) (fo : Others (λ a t. a ≡ n → ⊥) mid new) where
-    pub inner_filled : Filled first last e old new
-    inner_filled = filled_then first first last e old mid new (omega arith) (omega arith) (entered_filled m (first / 64 % 64) n first e old mid i) f
-
     pub inner_left : left new + part (slot_at old.slots m (first / 64 % 64)) (last - first) ≡ left old
     inner_left = omega (arith, part_open _ (last - first) c, fl, i.left)
 

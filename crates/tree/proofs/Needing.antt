@@ -1,146 +1,137 @@
 -- How the children that a fill draws are counted.
-use Rattle.std.proofs.Common.{◌≡◌, ℕ, ◌+◌, ◌-◌, ◌*◌, ◌/◌, ◌%◌, ◌<◌, ◌≤◌, min, Bool, cond, eqb, ltb, ◌⊎◌, List, sym, refl, ap, ◌∙◌, inl, inr, ⊎_elim, arith}
-use Rattle.std.proofs.lemmas.Bool.{cases_eq, cases_lt, lt-ltb, le-ltb, eq-eqb, ne_eqb, cond-true, cond-false}
+use Rattle.std.proofs.Common.{◌≡◌, ℕ, suc, ◌+◌, ◌-◌, ◌*◌, ◌/◌, ◌%◌, ◌<◌, ◌≤◌, max, min, cond, eqb, ltb, ◌⊎◌, List, sym, refl, ap, ◌∙◌, subst, inl, inr, ⊎_elim, arith, suc-mul, mul-le-mul_right, div-mul-le_self, mul-div_cancel}
+use Rattle.std.proofs.lemmas.Bool.{cases_lt, lt-ltb, le-ltb, eq-eqb, ne_eqb, cond-true, cond-false}
+use Rattle.std.proofs.Math.Nat.{lt-div-mul-add}
+use Rattle.std.proofs.lemmas.Nat.{div_below, le-div}
 use Rattle.tree.specs.declared.slot.Slot.{Slot}
 use Rattle.tree.specs.declared.slot.Slot.TheVariants.{Vacant, Child, Value}
 use Rattle.tree.specs.Nodes.{slot_at}
-use Rattle.tree.specs.Need.{part, need_by, root_part, need}
+use Rattle.tree.specs.Need.{part, at_ends, need_by, root_part, need}
 
--- a whole block draws none
-pub part_64 : (x : Slot) → part x 64 ≡ 0
-part_64 Vacant = refl
-part_64 (Child k) = refl
-part_64 (Value e) = refl
+-- one block, or two and what is between
+module _ (size : ℕ) (some : 0 < size) (g : ℕ → ℕ → ℕ) (first last : ℕ) where
+  pub ends_none : last ≤ first → at_ends size g first last ≡ 0
+  unfolding at_ends
+  ends_none h = cond-false (ltb first last) _ _ (le-ltb first last h)
 
-module _ (f : ℕ → Slot) (first last : ℕ) where
-  pub need_none : last ≤ first → need_by f first last ≡ 0
-  unfolding need_by
-  need_none h = cond-false (ltb first last) _ _ (le-ltb first last h)
-
-  opened : first < last → need_by f first last ≡
-      part (f (first / 64)) (min last (first / 64 * 64 + 64) - first) + cond (eqb (first / 64) ((last - 1) / 64)) 0 (part (f ((last - 1) / 64)) (last - (last - 1) / 64 * 64))
-  unfolding need_by
+  opened : first < last →
+      at_ends size g first last
+      ≡ g first (min last (first / size * size + size)) + cond (eqb (first / size) ((last - 1) / size)) 0 (g ((last - 1) / size * size) last)
+  unfolding at_ends
   opened h = cond-true (ltb first last) _ _ (lt-ltb first last h)
 
-  pub need_one : first < last → (last - 1) / 64 ≡ first / 64 → need_by f first last ≡ part (f (first / 64)) (last - first)
-  need_one h e =
-      let len : min last (first / 64 * 64 + 64) - first ≡ last - first = omega arith in
-      let a = ap (part (f (first / 64))) len in
-      let b : cond (eqb (first / 64) ((last - 1) / 64)) 0 (part (f ((last - 1) / 64)) (last - (last - 1) / 64 * 64)) ≡ 0 =
-      ap (λ (b : Bool). cond b 0 (part (f ((last - 1) / 64)) (last - (last - 1) / 64 * 64))) (eq-eqb (first / 64) ((last - 1) / 64) (sym e)) in
+  pub ends_one : first < last → (last - 1) / size ≡ first / size → at_ends size g first last ≡ g first last
+  ends_one h e =
+      let top : last - 1 < (last - 1) / size * size + size = lt-div-mul-add some in
+      let same = ap (λ (b : ℕ). b * size + size) e in
+      let stop : min last (first / size * size + size) ≡ last = omega (arith, top, same) in
+      let a = ap (g first) stop in
+      let b = cond-true (eqb (first / size) ((last - 1) / size)) 0 (g ((last - 1) / size * size) last) (eq-eqb (first / size) ((last - 1) / size) (sym e)) in
       omega (arith, opened h, a, b)
 
-  pub need_two : first < last → first / 64 < (last - 1) / 64 →
-      need_by f first last ≡ part (f (first / 64)) (first / 64 * 64 + 64 - first) + part (f ((last - 1) / 64)) (last - (last - 1) / 64 * 64)
-  need_two h lt =
-      let len : min last (first / 64 * 64 + 64) - first ≡ first / 64 * 64 + 64 - first = omega arith in
-      let a = ap (part (f (first / 64))) len in
-      let b : cond (eqb (first / 64) ((last - 1) / 64)) 0 (part (f ((last - 1) / 64)) (last - (last - 1) / 64 * 64)) ≡ part (f ((last - 1) / 64)) (last - (last - 1) / 64 * 64) =
-      ap (λ (b : Bool). cond b 0 (part (f ((last - 1) / 64)) (last - (last - 1) / 64 * 64))) (ne_eqb (first / 64) ((last - 1) / 64) (λ e. omega (arith, e))) in
+  pub ends_two : first < last → first / size * size + size < last → at_ends size g first last ≡ g first (first / size * size + size) + g ((last - 1) / size * size) last
+  ends_two h lt =
+      let stop : min last (first / size * size + size) ≡ first / size * size + size = omega (arith, lt) in
+      let a = ap (g first) stop in
+      let top : last - 1 < (last - 1) / size * size + size = lt-div-mul-add some in
+      let ne : first / size ≡ (last - 1) / size → ⊥ = λ e. omega (arith, ap (λ (b : ℕ). b * size) e, top, lt) in
+      let b = cond-false (eqb (first / size) ((last - 1) / size)) 0 (g ((last - 1) / size * size) last) (ne_eqb (first / size) ((last - 1) / size) ne) in
       omega (arith, opened h, a, b)
+
+div_between : (size q x : ℕ) → 0 < size → q * size ≤ x → x < q * size + size → x / size ≡ q
+div_between size q x some lo hi =
+    let next : suc q * size ≡ q * size + size = suc-mul q size in
+    let below = div_below x size (suc q) some (subst (λ (y : ℕ). x < y) (sym next) hi) in
+    omega (arith, le-div q x size some lo, below)
+
+less : {a b : ℕ} → a ≤ b → (a ≡ b → ⊥) → suc a ≤ b
+less h ne = omega (arith, h, ne)
 
 le_or_lt : (a b : ℕ) → (a ≤ b) ⊎ (b < a)
 le_or_lt a b = ⊎_elim inr inl (cases_lt b a)
 
--- the first block, and the blocks after it
-pub need_split : (f : ℕ → Slot) (first last stop : ℕ) → first < last → stop ≡ min last (first / 64 * 64 + 64) →
-    need_by f first last ≡ part (f (first / 64)) (stop - first) + need_by f stop last
-need_split f first last stop h is = ⊎_elim
-    (λ (short : last ≤ first / 64 * 64 + 64).
-    let e : stop ≡ last = omega arith in
-    let a = ap (λ (x : ℕ). part (f (first / 64)) (x - first)) e in
-    omega (arith, need_one f first last h (omega arith), need_none f stop last (omega arith), a))
-    (λ (long : first / 64 * 64 + 64 < last).
-    let e : stop ≡ first / 64 * 64 + 64 = omega arith in
-    let a = ap (λ (x : ℕ). part (f (first / 64)) (x - first)) e in
-    let two = need_two f first last h (omega arith) in
+-- the first block, and the blocks after it, where a whole block counts nothing
+pub ends_split : (size : ℕ) (some : 0 < size) (g : ℕ → ℕ → ℕ) (first last stop : ℕ) → ((a : ℕ) → a / size * size ≡ a → g a (a + size) ≡ 0) →
+    first < last → stop ≡ min last (first / size * size + size) → at_ends size g first last ≡ g first stop + at_ends size g stop last
+ends_split size some g first last stop whole h is =
+    let q = first / size in
+    let low : q * size ≤ first = div-mul-le_self first size in
     ⊎_elim
-    (λ (same : stop / 64 ≡ (last - 1) / 64).
-    let u = ap (λ (x : ℕ). part (f x) (last - stop)) same in
-    let v : part (f ((last - 1) / 64)) (last - stop) ≡ part (f ((last - 1) / 64)) (last - (last - 1) / 64 * 64) =
-    ap (part (f ((last - 1) / 64))) (omega arith) in
-    omega (arith, two, a, need_one f stop last (omega arith) (sym same), u, v))
-    (λ (ne : stop / 64 ≡ (last - 1) / 64 → ⊥).
-    let lt : stop / 64 < (last - 1) / 64 = omega arith in
-    let u : part (f (stop / 64)) (stop / 64 * 64 + 64 - stop) ≡ part (f (stop / 64)) 64 = ap (part (f (stop / 64))) (omega arith) in
-    omega (arith, two, a, need_two f stop last (omega arith) lt, u, part_64 (f (stop / 64))))
-    (cases_eq (stop / 64) ((last - 1) / 64)))
-    (le_or_lt last (first / 64 * 64 + 64))
+    (λ (short : last ≤ q * size + size).
+    let e : stop ≡ last = omega (arith, short, is) in
+    let one = ends_one size some g first last h (div_between size q (last - 1) some (omega (arith, low, h)) (omega (arith, short, h))) in
+    omega (arith, one, ends_none size some g stop last (omega (arith, e)), ap (g first) e))
+    (λ (long : q * size + size < last).
+    let e : stop ≡ q * size + size = omega (arith, long, is) in
+    let more : stop < last = omega (arith, e, long) in
+    let at : stop / size ≡ suc q = ap (λ (x : ℕ). x / size) (e ∙ sym (suc-mul q size)) ∙ mul-div_cancel (suc q) some in
+    let even : stop / size * size ≡ stop = ap (λ (x : ℕ). x * size) at ∙ suc-mul q size ∙ sym e in
+    let two = ends_two size some g first last h long in
+    let a = ap (g first) e in
+    ⊎_elim
+    (λ (short : last ≤ stop / size * size + size).
+    let same : (last - 1) / size ≡ stop / size = div_between size (stop / size) (last - 1) some (omega (arith, even, more)) (omega (arith, short, more)) in
+    let b = ap (λ (x : ℕ). g x last) (ap (λ (x : ℕ). x * size) same ∙ even) in
+    omega (arith, two, a, ends_one size some g stop last more same, b))
+    (λ (longer : stop / size * size + size < last).
+    let b = ap (λ (x : ℕ). g stop (x + size)) even in
+    omega (arith, two, a, ends_two size some g stop last more longer, b, whole stop even))
+    (le_or_lt last (stop / size * size + size)))
+    (le_or_lt last (q * size + size))
 
--- equal slots, equal needs
-pub need_same : (f g : ℕ → Slot) (first last : ℕ) → ((x : ℕ) → first < last → first / 64 ≤ x → x ≤ (last - 1) / 64 → f x ≡ g x) → need_by f first last ≡ need_by g first last
-need_same f g first last same = ⊎_elim
-    (λ (h : first < last).
-    let a = ap (λ (s : Slot). part s (last - first)) (same (first / 64) h (omega arith) (omega arith)) in
+-- equal counts of the parts, equal counts
+pub ends_same : (size : ℕ) (some : 0 < size) (g h : ℕ → ℕ → ℕ) (first last : ℕ) → ((a z : ℕ) → first ≤ a → a < z → z ≤ last → g a z ≡ h a z) →
+    at_ends size g first last ≡ at_ends size h first last
+ends_same size some g h first last same = ⊎_elim
+    (λ (lt : first < last).
+    let q = first / size in
+    let low : q * size ≤ first = div-mul-le_self first size in
     ⊎_elim
-    (λ (e : (last - 1) / 64 ≡ first / 64). omega (arith, need_one f first last h e, need_one g first last h e, a))
-    (λ (ne : (last - 1) / 64 ≡ first / 64 → ⊥).
-    let lt : first / 64 < (last - 1) / 64 = omega arith in
-    let b = ap (λ (s : Slot). part s (first / 64 * 64 + 64 - first)) (same (first / 64) h (omega arith) (omega arith)) in
-    let d = ap (λ (s : Slot). part s (last - (last - 1) / 64 * 64)) (same ((last - 1) / 64) h (omega arith) (omega arith)) in
-    omega (arith, need_two f first last h lt, need_two g first last h lt, b, d))
-    (cases_eq ((last - 1) / 64) (first / 64)))
-    (λ (h : last ≤ first). need_none f first last h ∙ sym (need_none g first last h))
+    (λ (short : last ≤ q * size + size).
+    let e = div_between size q (last - 1) some (omega (arith, low, lt)) (omega (arith, short, lt)) in
+    ends_one size some g first last lt e ∙ same first last (omega arith) lt (omega arith) ∙ sym (ends_one size some h first last lt e))
+    (λ (long : q * size + size < last).
+    let next : suc q * size ≡ q * size + size = suc-mul q size in
+    let up = mul-le-mul_right size (le-div (suc q) (last - 1) size some (omega (arith, next, long))) in
+    let top : (last - 1) / size * size ≤ last - 1 = div-mul-le_self (last - 1) size in
+    let over : first < q * size + size = lt-div-mul-add some in
+    let a = same first (q * size + size) (omega arith) over (omega (arith, long)) in
+    let b = same ((last - 1) / size * size) last (omega (arith, up, next, over)) (omega (arith, top, lt)) (omega arith) in
+    omega (arith, ends_two size some g first last lt long, ends_two size some h first last lt long, a, b))
+    (le_or_lt last (q * size + size)))
+    (λ (no : last ≤ first). ends_none size some g first last no ∙ sym (ends_none size some h first last no))
     (cases_lt first last)
 
+-- under a middle node a whole block draws none
+part_64 : (x : Slot) → part x 64 ≡ 0
+part_64 Vacant = refl
+part_64 (Child k) = refl
+part_64 (Value e) = refl
+
+pub need_split : (f : ℕ → Slot) (first last stop : ℕ) → first < last → stop ≡ min last (first / 64 * 64 + 64) →
+    need_by f first last ≡ part (f (first / 64)) (stop - first) + need_by f stop last
+need_split f first last stop = ends_split 64 (omega arith) (λ a z. part (f (a / 64)) (z - a)) first last stop
+    (λ a _. let e : a + 64 - a ≡ 64 = omega arith in ap (part (f (a / 64))) e ∙ part_64 (f (a / 64)))
+
+pub need_same : (f g : ℕ → Slot) (first last : ℕ) → ((x : ℕ) → first < last → first / 64 ≤ x → x ≤ (last - 1) / 64 → f x ≡ g x) → need_by f first last ≡ need_by g first last
+need_same f g first last same = ends_same 64 (omega arith) (λ a z. part (f (a / 64)) (z - a)) (λ a z. part (g (a / 64)) (z - a)) first last
+    (λ a z lo some hi. ap (λ (s : Slot). part s (z - a)) (same (a / 64) (omega arith) (omega arith) (omega arith)))
+
 -- the same over the root
-pub root_64 : (xs : List Slot) (x : Slot) (first last : ℕ) → first % 4096 ≡ 0 → last ≡ first + 4096 → root_part xs x first last ≡ 0
-root_64 xs Vacant first last a b = cond-true (eqb (last - first) 4096) _ _ (eq-eqb (last - first) 4096 (omega arith))
-root_64 xs (Child m) first last a b =
+root_4096 : (xs : List Slot) (x : Slot) (a : ℕ) → a / 4096 * 4096 ≡ a → root_part xs x a (a + 4096) ≡ 0
+root_4096 xs Vacant a even = cond-true (eqb (a + 4096 - a) 4096) _ _ (eq-eqb (a + 4096 - a) 4096 (omega arith))
+root_4096 xs (Child m) a even =
     let f : ℕ → Slot = λ x. slot_at xs m (x % 64) in
-    let u : part (f (first / 64)) (first / 64 * 64 + 64 - first) ≡ part (f (first / 64)) 64 = ap (part (f (first / 64))) (omega arith) in
-    let v : part (f ((last - 1) / 64)) (last - (last - 1) / 64 * 64) ≡ part (f ((last - 1) / 64)) 64 = ap (part (f ((last - 1) / 64))) (omega arith) in
-    omega (arith, need_two f first last (omega arith) (omega arith), u, v, part_64 (f (first / 64)), part_64 (f ((last - 1) / 64)))
-root_64 xs (Value e) first last a b = refl
-
-module _ (xs : List Slot) (first last : ℕ) where
-  pub root_none : last ≤ first → need xs first last ≡ 0
-  unfolding need
-  root_none h = cond-false (ltb first last) _ _ (le-ltb first last h)
-
-  root_opened : first < last → need xs first last ≡
-      root_part xs (slot_at xs 1 (first / 4096)) first (min last (first / 4096 * 4096 + 4096))
-      + cond (eqb (first / 4096) ((last - 1) / 4096)) 0 (root_part xs (slot_at xs 1 ((last - 1) / 4096)) ((last - 1) / 4096 * 4096) last)
-  unfolding need
-  root_opened h = cond-true (ltb first last) _ _ (lt-ltb first last h)
-
-  pub root_one : first < last → (last - 1) / 4096 ≡ first / 4096 → need xs first last ≡ root_part xs (slot_at xs 1 (first / 4096)) first last
-  root_one h e =
-      let len : min last (first / 4096 * 4096 + 4096) ≡ last = omega arith in
-      let a = ap (root_part xs (slot_at xs 1 (first / 4096)) first) len in
-      let b = cond-true (eqb (first / 4096) ((last - 1) / 4096)) 0 (root_part xs (slot_at xs 1 ((last - 1) / 4096)) ((last - 1) / 4096 * 4096) last) (eq-eqb (first / 4096) ((last - 1) / 4096) (sym e)) in
-      omega (arith, root_opened h, a, b)
-
-  pub root_two : first < last → first / 4096 < (last - 1) / 4096 →
-      need xs first last ≡ root_part xs (slot_at xs 1 (first / 4096)) first (first / 4096 * 4096 + 4096) + root_part xs (slot_at xs 1 ((last - 1) / 4096)) ((last - 1) / 4096 * 4096) last
-  root_two h lt =
-      let len : min last (first / 4096 * 4096 + 4096) ≡ first / 4096 * 4096 + 4096 = omega arith in
-      let a = ap (root_part xs (slot_at xs 1 (first / 4096)) first) len in
-      let b = cond-false (eqb (first / 4096) ((last - 1) / 4096)) 0 (root_part xs (slot_at xs 1 ((last - 1) / 4096)) ((last - 1) / 4096 * 4096) last) (ne_eqb (first / 4096) ((last - 1) / 4096) (λ e. omega (arith, e))) in
-      omega (arith, root_opened h, a, b)
+    let u : part (f (a / 64)) (a / 64 * 64 + 64 - a) ≡ part (f (a / 64)) 64 = ap (part (f (a / 64))) (omega (arith, even)) in
+    let b = (a + 4096 - 1) / 64 * 64 in
+    let v : part (f (b / 64)) (a + 4096 - b) ≡ part (f (b / 64)) 64 = ap (part (f (b / 64))) (omega (arith, even)) in
+    omega (arith, ends_two 64 (omega arith) (λ x y. part (f (x / 64)) (y - x)) a (a + 4096) (omega arith) (omega (arith, even)), u, v, part_64 (f (a / 64)), part_64 (f (b / 64)))
+root_4096 xs (Value e) a even = refl
 
 pub root_split : (xs : List Slot) (first last stop : ℕ) → first < last → stop ≡ min last (first / 4096 * 4096 + 4096) →
     need xs first last ≡ root_part xs (slot_at xs 1 (first / 4096)) first stop + need xs stop last
-root_split xs first last stop h is = ⊎_elim
-    (λ (short : last ≤ first / 4096 * 4096 + 4096).
-    let e : stop ≡ last = omega arith in
-    let a = ap (root_part xs (slot_at xs 1 (first / 4096)) first) e in
-    omega (arith, root_one xs first last h (omega arith), root_none xs stop last (omega arith), a))
-    (λ (long : first / 4096 * 4096 + 4096 < last).
-    let e : stop ≡ first / 4096 * 4096 + 4096 = omega arith in
-    let a = ap (root_part xs (slot_at xs 1 (first / 4096)) first) e in
-    let two = root_two xs first last h (omega arith) in
-    ⊎_elim
-    (λ (same : stop / 4096 ≡ (last - 1) / 4096).
-    let u = ap (λ (x : ℕ). root_part xs (slot_at xs 1 x) stop last) same in
-    let v : root_part xs (slot_at xs 1 ((last - 1) / 4096)) stop last ≡ root_part xs (slot_at xs 1 ((last - 1) / 4096)) ((last - 1) / 4096 * 4096) last =
-    ap (λ (y : ℕ). root_part xs (slot_at xs 1 ((last - 1) / 4096)) y last) (omega arith) in
-    omega (arith, two, a, root_one xs stop last (omega arith) (sym same), u, v))
-    (λ (ne : stop / 4096 ≡ (last - 1) / 4096 → ⊥).
-    let lt : stop / 4096 < (last - 1) / 4096 = omega arith in
-    omega (arith, two, a, root_two xs stop last (omega arith) lt, root_64 xs (slot_at xs 1 (stop / 4096)) stop (stop / 4096 * 4096 + 4096) (omega arith) (omega arith)))
-    (cases_eq (stop / 4096) ((last - 1) / 4096)))
-    (le_or_lt last (first / 4096 * 4096 + 4096))
+root_split xs first last stop = ends_split 4096 (omega arith) (λ a z. root_part xs (slot_at xs 1 (a / 4096)) a z) first last stop
+    (λ a even. root_4096 xs (slot_at xs 1 (a / 4096)) a even)
 
 -- equal slots under the root, equal needs
 abbrev pub Alike : List Slot → List Slot → ℕ → Type 0
@@ -152,48 +143,43 @@ module _ (xs ys : List Slot) where
   part_by b (Value v) e h first last = refl
   part_by b (Child m) e h first last = need_same (λ x. slot_at ys m (x % 64)) (λ x. slot_at xs m (x % 64)) first last (λ x _ _ _. h m (x % 64) e (omega arith))
 
-  part_alike : (b first last : ℕ) → Alike xs ys b → root_part ys (slot_at ys 1 b) first last ≡ root_part xs (slot_at xs 1 b) first last
-  part_alike b first last h = ap (λ (x : Slot). root_part ys x first last) h.0 ∙ part_by b (slot_at xs 1 b) refl h.1 first last
-
   pub root_same : (first last : ℕ) → ((b : ℕ) → first < last → first / 4096 ≤ b → b ≤ (last - 1) / 4096 → Alike xs ys b) → need ys first last ≡ need xs first last
-  root_same first last same = ⊎_elim
-      (λ (h : first < last). ⊎_elim
-      (λ (e : (last - 1) / 4096 ≡ first / 4096).
-      omega (arith, root_one xs first last h e, root_one ys first last h e, part_alike (first / 4096) first last (same (first / 4096) h (omega arith) (omega arith))))
-      (λ (ne : (last - 1) / 4096 ≡ first / 4096 → ⊥).
-      let lt : first / 4096 < (last - 1) / 4096 = omega arith in
-      omega (
-        arith,
-        root_two xs first last h lt,
-        root_two ys first last h lt,
-        part_alike (first / 4096) first (first / 4096 * 4096 + 4096) (same (first / 4096) h (omega arith) (omega arith)),
-        part_alike ((last - 1) / 4096) ((last - 1) / 4096 * 4096) last (same ((last - 1) / 4096) h (omega arith) (omega arith)),
-      ))
-      (cases_eq ((last - 1) / 4096) (first / 4096)))
-      (λ (h : last ≤ first). root_none ys first last h ∙ sym (root_none xs first last h))
-      (cases_lt first last)
+  root_same first last same = ends_same 4096 (omega arith) (λ a z. root_part ys (slot_at ys 1 (a / 4096)) a z) (λ a z. root_part xs (slot_at xs 1 (a / 4096)) a z) first last
+      (λ a z lo some hi.
+      let h = same (a / 4096) (omega arith) (omega arith) (omega arith) in
+      ap (λ (x : Slot). root_part ys x a z) h.0 ∙ part_by (a / 4096) (slot_at xs 1 (a / 4096)) refl h.1 a z)
 
--- how the code counts
-pub mid_head : (f : ℕ → Slot) (first last stop r : ℕ) → first < last → stop ≡ min last (first / 64 * 64 + 64) → stop ≡ last → r ≡ part (f (first / 64)) (stop - first) → r ≡ need_by f first last
-mid_head f first last stop r h is end e = omega (arith, e, need_split f first last stop h is, need_none f stop last (omega arith))
+pub one_before : (end block : ℕ) → end ≡ block + 1 → end - 1 ≡ block
+one_before end block e = omega (arith, e)
 
-pub mid_both : (f : ℕ → Slot) (first last stop r s : ℕ) → first < last → stop ≡ min last (first / 64 * 64 + 64) → (stop ≡ last → ⊥) →
-    r ≡ part (f (first / 64)) (stop - first) → s ≡ part (f ((last - 1) / 64)) (last - (last - 1) / 64 * 64) → r + s ≡ need_by f first last
-mid_both f first last stop r s h is ne e g =
-    let at : stop ≡ first / 64 * 64 + 64 = omega arith in
-    let a = ap (λ (x : ℕ). part (f (first / 64)) (x - first)) at in
-    omega (arith, e, g, a, need_two f first last h (omega arith))
+-- how the code counts, by the parts of the range in the blocks b and c
+module _ (size : ℕ) (some : 0 < size) (f : ℕ → ℕ → ℕ) (first last b c : ℕ) (h : first < last) (eb : b ≡ first / size) (ec : c ≡ (last - 1) / size) where
+  low : first / size * size ≤ first
+  low = div-mul-le_self first size
 
-pub top_head : (xs : List Slot) (first last stop r : ℕ) → first < last → stop ≡ min last (first / 4096 * 4096 + 4096) → stop ≡ last →
-    r ≡ root_part xs (slot_at xs 1 (first / 4096)) first stop → r ≡ need xs first last
-top_head xs first last stop r h is end e = omega (arith, e, root_split xs first last stop h is, root_none xs stop last (omega arith))
+  first_part : (a z r : ℕ) → a ≡ max first (b * size) → z ≡ min last (b * size + size) → r ≡ f a z → r ≡ f first (min last (first / size * size + size))
+  first_part a z r ea ez is =
+      let at : a ≡ first = omega (arith, ea, ap (λ (x : ℕ). x * size) eb, low) in
+      let to : z ≡ min last (first / size * size + size) = ez ∙ ap (λ (x : ℕ). min last (x * size + size)) eb in
+      is ∙ ap (λ (x : ℕ). f x z) at ∙ ap (f first) to
 
-pub top_both : (xs : List Slot) (first last stop r s b : ℕ) → first < last → stop ≡ min last (first / 4096 * 4096 + 4096) → (stop ≡ last → ⊥) → b ≡ (last - 1) / 4096 →
-    r ≡ root_part xs (slot_at xs 1 (first / 4096)) first stop → s ≡ root_part xs (slot_at xs 1 (b * 4096 / 4096)) (b * 4096) last → r + s ≡ need xs first last
-top_both xs first last stop r s b h is ne eb e g =
-    let at : stop ≡ first / 4096 * 4096 + 4096 = omega arith in
-    let a = ap (root_part xs (slot_at xs 1 (first / 4096)) first) at in
-    let i : b * 4096 / 4096 ≡ (last - 1) / 4096 = omega arith in
-    let u = ap (λ (x : ℕ). root_part xs (slot_at xs 1 x) (b * 4096) last) i in
-    let v = ap (λ (x : ℕ). root_part xs (slot_at xs 1 ((last - 1) / 4096)) (x * 4096) last) eb in
-    omega (arith, e, g, a, u, v, root_two xs first last h (omega arith))
+  pub one_end : (a z r : ℕ) → a ≡ max first (b * size) → z ≡ min last (b * size + size) → r ≡ f a z → b ≡ c → r ≡ at_ends size f first last
+  one_end a z r ea ez is same =
+      let e : first / size ≡ (last - 1) / size = sym eb ∙ same ∙ ec in
+      let none = cond-true (eqb (first / size) ((last - 1) / size)) 0 (f ((last - 1) / size * size) last) (eq-eqb (first / size) ((last - 1) / size) e) in
+      omega (arith, opened size some f first last h, first_part a z r ea ez is, none)
+
+  pub two_ends : (a z r p q s : ℕ) → a ≡ max first (b * size) → z ≡ min last (b * size + size) → r ≡ f a z → (b ≡ c → ⊥) →
+      p ≡ max first (c * size) → q ≡ min last (c * size + size) → s ≡ f p q → r + s ≡ at_ends size f first last
+  two_ends a z r p q s ea ez is ne ep eq it =
+      let apart : first / size ≡ (last - 1) / size → ⊥ = λ e. ne (eb ∙ e ∙ sym ec) in
+      let both = cond-false (eqb (first / size) ((last - 1) / size)) 0 (f ((last - 1) / size * size) last) (ne_eqb (first / size) ((last - 1) / size) apart) in
+      let under : first / size ≤ (last - 1) / size = le-div (first / size) (last - 1) size some (omega (arith, low, h)) in
+      let next : suc (first / size) * size ≡ first / size * size + size = suc-mul (first / size) size in
+      let up : suc (first / size) * size ≤ (last - 1) / size * size = mul-le-mul_right size (less under apart) in
+      let over : first < first / size * size + size = lt-div-mul-add some in
+      let top : last - 1 < (last - 1) / size * size + size = lt-div-mul-add some in
+      let same = ap (λ (x : ℕ). x * size) ec in
+      let at : p ≡ (last - 1) / size * size = omega (arith, ep, same, up, next, over) in
+      let to : q ≡ last = omega (arith, eq, same, top) in
+      omega (arith, opened size some f first last h, first_part a z r ea ez is, both, it ∙ ap (λ (x : ℕ). f x q) at ∙ ap (f ((last - 1) / size * size)) to)

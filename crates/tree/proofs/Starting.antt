@@ -10,6 +10,7 @@ use Rattle.model.specs.declared.page.Mapping.{Mapping}
 use Rattle.tree.specs.declared.pool.Pool.{Pool}
 use Rattle.tree.specs.Pools.{full, waiting, next_object, drawn}
 use Rattle.tree.specs.Soundness.{Linked, Pooled, Sound}
+use Rattle.tree.specs.declared.table.Tree.{Tree}
 use Rattle.tree.specs.Changes.{rooted, planted}
 use Rattle.tree.specs.Holders.{holders}
 use Rattle.tree.proofs.Holding.{held_none}
@@ -75,8 +76,13 @@ planted_sound nodes h1 h2 = record {
   pooled = new_pooled 4160 65 (record { level = 1; parent = 0; place = 0 }) (drawn (full 64 nodes)) refl refl h1 h2;
 }
 
-pub planted_is : (nodes k : ℕ) (p : Pool 64) → k ≡ next_object (full 64 nodes) → p ≡ drawn (full 64 nodes) → rooted k p ≡ planted nodes
-planted_is nodes k p a b = ap (λ (x : ℕ). rooted x p) a ∙ ap (λ (x : Pool 64). rooted (next_object (full 64 nodes)) x) b
+-- the links of free nodes are made as defaults
+pub planted_is : (nodes k : ℕ) (p : Pool 64) (u : Link) → k ≡ next_object (full 64 nodes) → p ≡ drawn (full 64 nodes) → (u.level ≡ 0) × ((u.parent ≡ 0) × (u.place ≡ 0)) →
+    ◌≡◌ {A = Tree} (record { slots = replicate 4160 Vacant; links = set (replicate 65 u) k (record { level = 1; parent = 0; place = 0 }); pool = p }) (planted nodes)
+planted_is nodes k p u a b e =
+    let none : u ≡ no_link = λ i. record { level = e.0 i; parent = e.1.0 i; place = e.1.1 i } in
+    ap (λ (v : Link). record { slots = replicate 4160 Vacant; links = set (replicate 65 v) k (record { level = 1; parent = 0; place = 0 }); pool = p }) none
+    ∙ ap (λ (x : ℕ). rooted x p) a ∙ ap (λ (x : Pool 64). rooted (next_object (full 64 nodes)) x) b
 
 -- a new tree has one node, the root, which nobody but the tree holds
 pub planted_level : (nodes n : ℕ) → (n ≡ 1 → ⊥) → (link_at (planted nodes).links n).level ≡ 0

@@ -43,46 +43,6 @@ counted_put f g old new n s e ok h live hs was w ch =
     (ap (λ (u : Tree). u.links) w)
     (λ a la ne. holders_same old.slots new.slots a (λ t ht. rest a t ht (λ x _. ne x)))
 
--- an older leaf gains k slots
-pub counted_leaf : (f g : ℕ → Option ℕ) (old new : Tree) (n k : ℕ) → Counted f old → 0 < (link_at old.links n).level →
-    Changed n (Some (how_many (f n) + k)) f g → holders new.slots n ≡ holders old.slots n + k → new.links ≡ old.links →
-    Others (λ a t. a ≡ n → ⊥) old new → Counted g new
-counted_leaf f g old new n k h live ch gain links others =
-    counted_gain f g old new n k h live ch gain links (λ a la ne. holders_same old.slots new.slots a (λ t ht. others a t ht la ne))
-
--- an older node gains a child, which is given its k slots
-pub counted_new : (f g i : ℕ → Option ℕ) (old mid new : Tree) (m s n k : ℕ) → Sound old → Counted f old → m < 65 → s < 64 → 0 < (link_at old.links m).level →
-    slot_at old.slots m s ≡ Vacant → Hung m s n old mid → Changed m (Some (how_many (f m) + 1)) f g → Changed n (Some k) g i →
-    holders new.slots n ≡ holders mid.slots n + k → new.links ≡ mid.links → Others (λ a t. a ≡ n → ⊥) mid new → Counted i new
-counted_new f g i old mid new m s n k ok h hm hs live was w up gave gain links others a live' =
-    let la : 0 < (link_at mid.links a).level = subst (λ (u : List Link). 0 < (link_at u a).level) links live' in
-    let rest : (b t : ℕ) → t < 64 → (b ≡ m → t ≡ s → ⊥) → slot_at mid.slots b t ≡ slot_at old.slots b t =
-    λ b t ht ne. ap (λ (x : List Slot). slot_at x b t) w.slots ∙ put_other old.slots m s (Child n) hs b t ht ne in
-    let here : slot_at mid.slots m s ≡ Child n = ap (λ (x : List Slot). slot_at x m s) w.slots ∙ put_same old.slots m s (Child n) ok.linked.wide hm hs in
-    let m_n : m ≡ n → ⊥ = λ e. omega (arith, ap (λ (j : ℕ). (link_at old.links j).level) e, w.idle, live) in
-    let n_1 : n ≡ 1 → ⊥ = λ e. omega (arith, ap (λ (j : ℕ). (link_at old.links j).level) e, w.idle, ok.linked.root) in
-    let blank : held mid.slots n 64 ≡ 0 = held_none mid.slots n 64 (λ t ht. rest n t ht (λ e _. m_n (sym e)) ∙ ok.linked.free n t ht w.idle) in
-    let low = cond-false {A = ℕ} (eqb n 1) 1 0 (ne_eqb n 1 n_1) in
-    ⊎_elim
-    (λ (e : a ≡ n).
-    let y : k ≡ holders new.slots n = omega (arith, gain, blank, low) in
-    ap i e ∙ gave.here ∙ ap Some y ∙ ap (λ (j : ℕ). Some (holders new.slots j)) (sym e))
-    (λ (ne : a ≡ n → ⊥).
-    let lo : 0 < (link_at old.links a).level = subst (λ (u : Link). 0 < u.level) (w.levels a ne) la in
-    let kept : holders new.slots a ≡ holders mid.slots a = holders_same mid.slots new.slots a (λ t ht. others a t ht la ne) in
-    ⊎_elim
-    (λ (e : a ≡ m).
-    let x : how_many (f m) ≡ holders old.slots m = ap how_many (h m live) in
-    let y : holders mid.slots m ≡ holders old.slots m + 1 =
-    holders_gain old.slots mid.slots m s hs (ap taken was) (ap taken here) (λ t ht no. rest m t ht (λ _ z. no z)) in
-    let z : how_many (f m) + 1 ≡ holders mid.slots m = omega (arith, x, y) in
-    gave.rest a ne ∙ ap g e ∙ up.here ∙ ap Some z ∙ ap (λ (j : ℕ). Some (holders mid.slots j)) (sym e) ∙ ap Some (sym kept))
-    (λ (no : a ≡ m → ⊥).
-    let y : holders mid.slots a ≡ holders old.slots a = holders_same old.slots mid.slots a (λ t ht. rest a t ht (λ z _. no z)) in
-    gave.rest a ne ∙ up.rest a no ∙ h a lo ∙ ap Some (sym y) ∙ ap Some (sym kept))
-    (cases_eq a m))
-    (cases_eq a n)
-
 is_true : (b : Bool) → (b ≡ false → ⊥) → b ≡ true
 is_true true h = refl
 is_true false h = absurd (h refl)
@@ -170,12 +130,6 @@ module _ (older : Bool) (m : ℕ) where
     -- for a child that is filled before it is given
     pub but_child : (f g : ℕ → Option ℕ) → older ≡ true → CountedBut older m f old → Told older m f g → CountedBut false n g mid
     but_child f g o h up a la excl = hung_but f g h up a la (excl refl) (λ z _. let q : ◌≡◌ {A = Bool} true false = sym o ∙ z in absurd (let z : ◌≡◌ {A = ℕ} 0 1 = cc in omega arith))
-
-pub but_give : (m k : ℕ) (f g : ℕ → Option ℕ) (t : Tree) → CountedBut false m f t → Changed m (Some k) f g → holders t.slots m ≡ k → Counted g t
-but_give m k f g t h ch is a la = ⊎_elim
-    (λ (e : a ≡ m). ap g e ∙ ch.here ∙ ap Some (sym is) ∙ ap (λ (j : ℕ). Some (holders t.slots j)) (sym e))
-    (λ (ne : a ≡ m → ⊥). ch.rest a ne ∙ h a la (λ _. ne))
-    (cases_eq a m)
 
 -- the child was given before it was filled
 pub but_given : (m k : ℕ) (g i : ℕ → Option ℕ) (t : Tree) → CountedBut false m g t → Changed m (Some k) g i → CountedBut false m i t

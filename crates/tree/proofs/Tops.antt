@@ -1,5 +1,5 @@
 -- The turns of a fill under the root.
-use Rattle.std.proofs.Common.{◌≡◌, ℕ, ◌+◌, ◌-◌, ◌*◌, ◌/◌, ◌%◌, ◌<◌, ◌≤◌, min, true, false, eqb, List, sym, refl, ap, ◌∙◌, subst, arith}
+use Rattle.std.proofs.Common.{◌≡◌, ℕ, ◌+◌, ◌-◌, ◌*◌, ◌/◌, ◌%◌, ◌<◌, ◌≤◌, max, min, true, false, eqb, List, sym, refl, ap, ◌∙◌, subst, arith}
 use Rattle.std.proofs.lemmas.Bool.{cond-true, cond-false}
 use Rattle.model.specs.declared.page.Mapping.{Mapping}
 use Rattle.tree.specs.declared.slot.Slot.{Slot}
@@ -13,9 +13,10 @@ use Rattle.tree.specs.Walks.{Put}
 use Rattle.tree.specs.Need.{covers, vacancy, need_by, need_mid, root_part, need}
 use Rattle.tree.specs.Filled.{Filled, Free}
 use Rattle.tree.specs.Walks.{Others, Entered, Beside}
-use Rattle.tree.proofs.Filling.{filled_then, root_filled, put_left, put_rest}
+use Rattle.tree.proofs.Exact.{reached}
+use Rattle.tree.proofs.Filling.{filled_none, filled_then, root_filled, put_left, put_rest}
 use Rattle.tree.proofs.Leaves.{covers_true}
-use Rattle.tree.proofs.Needing.{need_same, root_split, root_same}
+use Rattle.tree.proofs.Needing.{ends_none, need_same, root_split, root_same}
 use Rattle.tree.proofs.Blocks.{level_2}
 
 part_all : (xs : List Slot) (x : Slot) (first last : ℕ) → true ≡ covers x (last - first) 4096 → root_part xs x first last ≡ 0
@@ -90,29 +91,58 @@ vacancy_first xs Vacant first last c =
 vacancy_first xs (Child k) first last c = omega arith
 vacancy_first xs (Value e) first last c = omega arith
 
--- a turn from `at` to `stop`
-module _ (old now : Tree) (first last at stop : ℕ) (e : Mapping) (small : last ≤ 262144) (free : Free old first last)
+-- a fill of the range has come to the page `at`
+pub record Come (first last : ℕ) (e : Mapping) (old : Tree) (at : ℕ) (now : Tree) : Type 0 where
+  pub filled : Filled first at e old now
+  pub count : left now + need old.slots first last ≡ left old + need now.slots at last
+
+-- before the first block, and after the last
+module _ (first last : ℕ) (e : Mapping) (old : Tree) (some : first < last) (block : ℕ) where
+  pub come_first : Sound old → block ≡ first / 4096 → Come first last e old (reached 4096 first last block) old
+  come_first ok b =
+      let at : first ≡ reached 4096 first last block = omega (arith, b) in
+      subst (λ (x : ℕ). Come first last e old x old) at (record { filled = filled_none first e old ok; count = refl })
+
+  pub come_last : (now : Tree) → block ≡ (last - 1) / 4096 + 1 → Come first last e old (reached 4096 first last block) now → Come first last e old last now
+  come_last now b u =
+      let at : reached 4096 first last block ≡ last = omega (arith, b) in
+      subst (λ (x : ℕ). Come first last e old x now) at u
+
+pub come_left : (first last : ℕ) (e : Mapping) (old now : Tree) → Come first last e old last now → left now + need old.slots first last ≡ left old
+come_left first last e old now u =
+    omega (arith, u.count, ends_none 4096 (omega arith) (λ a z. root_part now.slots (slot_at now.slots 1 (a / 4096)) a z) last last (omega arith))
+
+-- a turn takes the next block, in which the range has the pages from `at` and below `stop`
+module _ (old now : Tree) (first last number at stop : ℕ) (e : Mapping) (small : last ≤ 262144) (free : Free old first last)
     (room : need old.slots first last ≤ left old)
-    (from : first ≤ at) (to : at < last) (is : stop ≡ min last (at / 4096 * 4096 + 4096)) (f : Filled first at e old now)
-    (count : left now + need old.slots first last ≡ left old + need now.slots at last) where
+    (low : first / 4096 ≤ number) (high : number ≤ (last - 1) / 4096) (some : first < last)
+    (from : at ≡ max first (number * 4096)) (to : stop ≡ min last (number * 4096 + 4096)) (before : Come first last e old (reached 4096 first last number) now) where
+  u : Come first last e old at now
+  u =
+      let same : reached 4096 first last number ≡ at = omega (arith, from, low, high, some) in
+      subst (λ (x : ℕ). Come first last e old x now) same before
+
+  is : stop ≡ min last (at / 4096 * 4096 + 4096)
+  is = omega (arith, from, to, low)
+
+  within : (first ≤ at) × (at < stop) × (stop ≤ last)
+  within = (omega (arith, from), omega (arith, from, to, low, high, some), omega (arith, to))
+
   pub top_free : Free now at stop
-  top_free q x y = f.rest q (omega arith) (λ _ z. omega (arith, z)) ∙ free q (omega arith) (omega arith)
+  top_free q x y = u.filled.rest q (omega (arith, within, y)) (λ _ z. omega (arith, z, x)) ∙ free q (omega (arith, within, x)) (omega (arith, within, y))
 
   split : need now.slots at last ≡ root_part now.slots (slot_at now.slots 1 (at / 4096)) at stop + need now.slots stop last
-  split = root_split now.slots at last stop to is
+  split = root_split now.slots at last stop (omega (arith, within)) is
 
   pub top_room : root_part now.slots (slot_at now.slots 1 (at / 4096)) at stop ≤ left now
-  top_room = omega (arith, split, count, room)
+  top_room = omega (arith, split, u.count, room)
 
   module _ (new : Tree) (g : Filled at stop e now new)
       (spent : left new + root_part now.slots (slot_at now.slots 1 (at / 4096)) at stop ≡ left now)
       (others : Others (Beside now (at / 4096)) now new) where
-    pub top_turn_filled : Filled first stop e old new
-    top_turn_filled = filled_then first at stop e old now new from (omega arith) f g
-
     later : need new.slots stop last ≡ need now.slots stop last
     later = root_same now.slots new.slots stop last (λ b h lo hi.
-        let ok = f.sound.linked in
+        let ok = u.filled.sound.linked in
         let hb : b < 64 = omega arith in
         let ne : b ≡ at / 4096 → ⊥ = λ x. omega (arith, x, lo, h, is) in (
           others 1 b hb (omega (arith, ok.root)) (omega (arith, ok.root), (λ _ x. ne x), (λ x. absurd (omega (arith, x, ok.root)))),
@@ -122,5 +152,10 @@ module _ (old now : Tree) (first last at stop : ℕ) (e : Mapping) (small : last
               others m t ht (omega (arith, lm)) (omega (arith, lm, ok.root), (λ x. absurd (omega (arith, x, lm, ok.root))), (λ _ x. ne (sym pm ∙ x))),
         ))
 
-    pub top_turn_count : left new + need old.slots first last ≡ left old + need new.slots stop last
-    top_turn_count = omega (arith, spent, count, split, later)
+    pub next_come : Come first last e old (reached 4096 first last (number + 1)) new
+    next_come =
+        let same : stop ≡ reached 4096 first last (number + 1) = omega (arith, to, low) in
+        subst (λ (x : ℕ). Come first last e old x new) same (record {
+          filled = filled_then first at stop e old now new within.0 (omega (arith, within)) u.filled g;
+          count = omega (arith, spent, u.count, split, later);
+        })

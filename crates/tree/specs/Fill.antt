@@ -15,13 +15,24 @@ use Rattle.tree.specs.Changes.{written, grown}
 unfoldable pub blocks_met : ℕ → ℕ → ℕ → ℕ
 blocks_met size first last = cond (nat_lt first last) ((last - 1) / size + 1 - first / size) 0
 
--- where the range's part of the block number k after its first begins, and where it ends
+-- where the range's part of the block number k after its first begins
 abbrev pub part_start : ℕ → ℕ → ℕ → ℕ
 part_start size first k = max first ((first / size + k) * size)
 
 -- where that part ends
 abbrev pub part_stop : ℕ → ℕ → ℕ → ℕ → ℕ
 part_stop size first last k = min last ((first / size + k) * size + size)
+
+-- what steps over the range's parts in the first k blocks of `size` pages that it meets make of a tree
+unfoldable pub walk : ℕ → (ℕ → ℕ → Tree → Tree) → ℕ → ℕ → ℕ → Tree → Tree
+walk size step first last zero t = t
+walk size step first last (suc k) t = step (part_start size first k) (part_stop size first last k) (walk size step first last k t)
+
+-- what is told in these steps
+unfoldable pub told_walk : ℕ → (ℕ → ℕ → Tree → Tree) → (ℕ → ℕ → Tree → List Operation) → ℕ → ℕ → ℕ → Tree → List Operation
+told_walk size step says first last zero t = []
+told_walk size step says first last (suc k) t =
+    told_walk size step says first last k t ++ says (part_start size first k) (part_stop size first last k) (walk size step first last k t)
 
 -- `count` slots of the leaf n, from that of page `first` on, come to hold e
 unfoldable pub fill_leaf : ℕ → ℕ → Mapping → ℕ → Tree → Tree
@@ -40,14 +51,9 @@ fill_block_by (Value v) m first last e t = t
 unfoldable pub fill_block : ℕ → ℕ → ℕ → Mapping → Tree → Tree
 fill_block m first last e t = fill_block_by (slot_at t.slots m (first / 64 % 64)) m first last e t
 
--- the first k blocks of 64 pages that the range meets, under the middle node m
-unfoldable pub fill_blocks : ℕ → ℕ → ℕ → Mapping → ℕ → Tree → Tree
-fill_blocks m first last e zero t = t
-fill_blocks m first last e (suc k) t = fill_block m (part_start 64 first k) (part_stop 64 first last k) e (fill_blocks m first last e k t)
-
 -- all blocks of 64 pages that the range meets
 abbrev pub fill_middle : ℕ → ℕ → ℕ → Mapping → Tree → Tree
-fill_middle m first last e t = fill_blocks m first last e (blocks_met 64 first last) t
+fill_middle m first last e t = walk 64 (λ a z. fill_block m a z e) first last (blocks_met 64 first last) t
 
 -- the same of a block of 4,096 pages, by what its slot in the root has
 abbrev pub fill_top_by : Slot → ℕ → ℕ → Mapping → Tree → Tree
@@ -60,14 +66,9 @@ fill_top_by (Value v) first last e t = t
 unfoldable pub fill_top : ℕ → ℕ → Mapping → Tree → Tree
 fill_top first last e t = fill_top_by (slot_at t.slots 1 (first / 4096)) first last e t
 
--- the first k blocks of 4,096 pages that the range meets
-unfoldable pub fill_tops : ℕ → ℕ → Mapping → ℕ → Tree → Tree
-fill_tops first last e zero t = t
-fill_tops first last e (suc k) t = fill_top (part_start 4096 first k) (part_stop 4096 first last k) e (fill_tops first last e k t)
-
 -- the whole range
 abbrev pub fill : ℕ → ℕ → Mapping → Tree → Tree
-fill first last e t = fill_tops first last e (blocks_met 4096 first last) t
+fill first last e t = walk 4096 (λ a z. fill_top a z e) first last (blocks_met 4096 first last) t
 
 -- what the node counter is told: an older node that gains a slot is revived, a new one is given its slots at once
 unfoldable pub revivals : ℕ → ℕ → ℕ → List Operation
@@ -88,15 +89,10 @@ told_block_by (Value v) older core m first last t = []
 unfoldable pub told_block : Bool → ℕ → ℕ → ℕ → ℕ → Tree → List Operation
 told_block older core m first last t = told_block_by (slot_at t.slots m (first / 64 % 64)) older core m first last t
 
--- what is told of the first k blocks
-unfoldable pub told_blocks : Bool → ℕ → ℕ → ℕ → ℕ → Mapping → ℕ → Tree → List Operation
-told_blocks older core m first last e zero t = []
-told_blocks older core m first last e (suc k) t =
-    told_blocks older core m first last e k t ++ told_block older core m (part_start 64 first k) (part_stop 64 first last k) (fill_blocks m first last e k t)
-
 -- what is told of all blocks under a middle node
 abbrev pub told_middle : Bool → ℕ → ℕ → ℕ → ℕ → Mapping → Tree → List Operation
-told_middle older core m first last e t = told_blocks older core m first last e (blocks_met 64 first last) t
+told_middle older core m first last e t =
+    told_walk 64 (λ a z. fill_block m a z e) (told_block older core m) first last (blocks_met 64 first last) t
 
 -- what is told of a block of 4,096 pages, by what its slot in the root has
 abbrev pub told_top_by : Slot → ℕ → ℕ → ℕ → Mapping → Tree → List Operation
@@ -110,11 +106,6 @@ told_top_by (Value v) core first last e t = []
 unfoldable pub told_top : ℕ → ℕ → ℕ → Mapping → Tree → List Operation
 told_top core first last e t = told_top_by (slot_at t.slots 1 (first / 4096)) core first last e t
 
--- what is told of the first k blocks of 4,096 pages
-unfoldable pub told_tops : ℕ → ℕ → ℕ → Mapping → ℕ → Tree → List Operation
-told_tops core first last e zero t = []
-told_tops core first last e (suc k) t = told_tops core first last e k t ++ told_top core (part_start 4096 first k) (part_stop 4096 first last k) e (fill_tops first last e k t)
-
 -- all that the node counter is told by a fill, in this order
 abbrev pub told : ℕ → ℕ → ℕ → Mapping → Tree → List Operation
-told core first last e t = told_tops core first last e (blocks_met 4096 first last) t
+told core first last e t = told_walk 4096 (λ a z. fill_top a z e) (λ a z. told_top core a z e) first last (blocks_met 4096 first last) t

@@ -20,13 +20,16 @@ vacancy (Value e) = 0
 abbrev pub part : Slot → ℕ → ℕ
 part slot len = cond (covers slot len 64) 0 (vacancy slot)
 
--- over the blocks of 64 pages of a middle node, whose slots f gives by block: only the first and the last can be met in part
-unfoldable pub need_by : (ℕ → Slot) → ℕ → ℕ → ℕ
-need_by f first last =
+-- what `count` makes of a range's parts in the first and the last block of `size` pages that it meets: only these can it meet in part
+unfoldable pub at_ends : ℕ → (ℕ → ℕ → ℕ) → ℕ → ℕ → ℕ
+at_ends size count first last =
     cond (nat_lt first last)
-    (part (f (first / 64)) (min last (first / 64 * 64 + 64) - first)
-    + cond (first / 64 == (last - 1) / 64) 0 (part (f ((last - 1) / 64)) (last - (last - 1) / 64 * 64)))
+    (count first (min last (first / size * size + size)) + cond (first / size == (last - 1) / size) 0 (count ((last - 1) / size * size) last))
     0
+
+-- over the blocks of 64 pages of a middle node, whose slots f gives by block
+abbrev pub need_by : (ℕ → Slot) → ℕ → ℕ → ℕ
+need_by f first last = at_ends 64 (λ a z. part (f (a / 64)) (z - a)) first last
 
 -- the children that a range draws under the middle node m
 abbrev pub need_mid : List Slot → ℕ → ℕ → ℕ → ℕ
@@ -38,11 +41,6 @@ root_part slots Vacant first last = cond (last - first == 4096) 0 (1 + need_by (
 root_part slots (Child m) first last = need_mid slots m first last
 root_part slots (Value e) first last = 0
 
--- the children that a range draws in all: only the first and the last block of 4,096 pages can be met in part
-unfoldable pub need : List Slot → ℕ → ℕ → ℕ
-need slots first last =
-    cond (nat_lt first last)
-    (root_part slots (slot_at slots 1 (first / 4096)) first (min last (first / 4096 * 4096 + 4096))
-    + cond (first / 4096 == (last - 1) / 4096) 0
-    (root_part slots (slot_at slots 1 ((last - 1) / 4096)) ((last - 1) / 4096 * 4096) last))
-    0
+-- the children that a range draws in all
+abbrev pub need : List Slot → ℕ → ℕ → ℕ
+need slots first last = at_ends 4096 (λ a z. root_part slots (slot_at slots 1 (a / 4096)) a z) first last

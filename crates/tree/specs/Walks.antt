@@ -70,9 +70,7 @@ abbrev pub Beside : Tree → ℕ → ℕ → ℕ → Type 0
 Beside t b a s =
     ((link_at t.links a).level < 3) × ((link_at t.links a).level ≡ 1 → s ≢ b) × ((link_at t.links a).level ≡ 2 → (link_at t.links a).place ≢ b)
 
--- how far a fill under the middle node m has come
-pub record Goes (m first last at : ℕ) (old now : Tree) : Type 0 where
-  pub later : (x : ℕ) → at < last → at / 64 ≤ x → x ≤ (last - 1) / 64 → slot_at now.slots m (x % 64) ≡ slot_at old.slots m (x % 64)
-  pub even : first < at → at < last → at % 64 ≡ 0
-  pub start : at ≡ first → holders now.slots m ≡ holders old.slots m
-  pub gain : ((t : ℕ) → t < 64 → slot_at old.slots m t ≡ Vacant) → first < at → holders now.slots m + first / 64 ≡ holders old.slots m + ((at - 1) / 64 + 1)
+-- a fill under the middle node m has come to the block b of 64 pages
+pub record Goes (m first last b : ℕ) (old now : Tree) : Type 0 where
+  pub later : (x : ℕ) → b ≤ x → x ≤ (last - 1) / 64 → slot_at now.slots m (x % 64) ≡ slot_at old.slots m (x % 64)
+  pub gain : ((t : ℕ) → t < 64 → slot_at old.slots m t ≡ Vacant) → holders now.slots m + first / 64 ≡ holders old.slots m + b

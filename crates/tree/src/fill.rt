@@ -9,45 +9,43 @@ ghost use Rattle.tree.specs.Filled.{Filled, Free};
 ghost use Rattle.tree.specs.Walks.{Others, LeafOf, Beside, Goes};
 ghost use Rattle.tree.specs.Fill.{fill_leaf, fill_block, fill_middle, fill_top, fill, told_block, told_middle, told_top, told};
 
-use super::ends::{block_end, top_end};
+use super::pages::Pages;
 use super::slot::{NodeId, Slot};
 use super::table::Tree;
 use super::tell::{revive_all, tell};
 use counter::counter::Counter;
 use counter::kind::Nodes;
-use model::page::{Core, Mapping, Page};
+use model::page::{Core, Mapping};
 
-impl Tree {
-    // Whether a slot is vacant and its block of `size` pages is met in all of them.
-    fn whole(&self, n: NodeId, s: u32, len: u32, size: u32) -> bool
-        requires { (n < 65) × (s < 64) }
-        ensures { result ≡ covers (slot_at self.now.slots n s) len size }
+impl Slot {
+    // Whether the slot is vacant and its block of SIZE pages is met in all of them.
+    fn whole<const SIZE: u32>(self, pages: Pages) -> bool
+        ensures { result ≡ covers self (pages.last - pages.first) SIZE }
     {
-        match self.at(n, s) {
-            Slot::Vacant => len == size,
-            Slot::Child(_) => false,
-            Slot::Value(_) => false,
+        match self {
+            Slot::Vacant => pages.len() == SIZE,
+            Slot::Child(_) | Slot::Value(_) => false,
         }
     }
+}
 
+impl Tree {
     // Fills pages of one leaf.
-    fn fill_leaf(&mut self, n: NodeId, first: Page, last: Page, e: Mapping)
+    fn fill_leaf(&mut self, n: NodeId, pages: Pages, e: Mapping)
         requires sound { Sound self.old }
         requires fits { Within e }
         requires node { n < 65 }
-        requires some { first < last }
-        requires small { last ≤ 262144 }
-        requires block { (last - 1) / 64 ≡ first / 64 }
-        requires path { LeafOf self.old first n }
-        requires free { Free self.old first last }
-        ensures exact { self.new ≡ fill_leaf n first e (last - first) self.old }
-        ensures filled { Filled first last e self.old self.new }
+        requires block { (pages.last - 1) / 64 ≡ pages.first / 64 }
+        requires path { LeafOf self.old pages.first n }
+        requires free { Free self.old pages.first pages.last }
+        ensures exact { self.new ≡ fill_leaf n pages.first e (pages.last - pages.first) self.old }
+        ensures filled { Filled pages.first pages.last e self.old self.new }
         ensures left { left self.new ≡ left self.old }
         ensures others { Others (λ a t. a ≢ n) self.old self.new }
         ensures links { self.new.links ≡ self.old.links }
-        ensures gained { holders self.new.slots n ≡ holders self.old.slots n + (last - first) }
+        ensures gained { holders self.new.slots n ≡ holders self.old.slots n + (pages.last - pages.first) }
     {
-        for page in first..last {
+        for page in pages.first..pages.last {
             self.put(n, page % 64, e);
         }
     }
@@ -59,49 +57,47 @@ impl Tree {
         core: Core,
         older: bool,
         m: NodeId,
-        first: Page,
-        last: Page,
+        pages: Pages,
         e: Mapping,
     )
         requires sound { Sound self.old }
         requires fits { Within e }
         requires node { m < 65 }
-        requires some { first < last }
-        requires small { last ≤ 262144 }
-        requires block { (last - 1) / 64 ≡ first / 64 }
-        requires path { slot_at self.old.slots 1 (first / 4096) ≡ Child m }
-        requires free { Free self.old first last }
-        requires room { part (slot_at self.old.slots m (first / 64 % 64)) (last - first) ≤ left self.old }
+        requires block { (pages.last - 1) / 64 ≡ pages.first / 64 }
+        requires path { slot_at self.old.slots 1 (pages.first / 4096) ≡ Child m }
+        requires free { Free self.old pages.first pages.last }
+        requires room { part (slot_at self.old.slots m (pages.first / 64 % 64)) (pages.last - pages.first) ≤ left self.old }
         requires core { core < (C.Counter.meaning counter.old).cores }
         requires counted { CountedBut older m (C.Counter.meaning counter.old).holders self.old }
         requires idle { Idle (C.Counter.meaning counter.old).holders self.old }
-        ensures exact { self.new ≡ fill_block m first last e self.old }
-        ensures told { Follows C.Counter.steps (told_block older core m first last self.old) counter.old counter.new }
-        ensures filled { Filled first last e self.old self.new }
-        ensures left { left self.new + part (slot_at self.old.slots m (first / 64 % 64)) (last - first) ≡ left self.old }
-        ensures others { Others (λ a t. ((link_at self.old.links a).level < 3) × (a ≡ m → t ≢ first / 64 % 64)) self.old self.new }
+        ensures exact { self.new ≡ fill_block m pages.first pages.last e self.old }
+        ensures told { Follows C.Counter.steps (told_block older core m pages.first pages.last self.old) counter.old counter.new }
+        ensures filled { Filled pages.first pages.last e self.old self.new }
+        ensures left { left self.new + part (slot_at self.old.slots m (pages.first / 64 % 64)) (pages.last - pages.first) ≡ left self.old }
+        ensures others { Others (λ a t. ((link_at self.old.links a).level < 3) × (a ≡ m → t ≢ pages.first / 64 % 64)) self.old self.new }
         ensures counted { CountedBut older m (C.Counter.meaning counter.new).holders self.new }
         ensures idle { Idle (C.Counter.meaning counter.new).holders self.new }
         ensures aside { Aside (C.Counter.meaning counter.old) (C.Counter.meaning counter.new) }
         ensures quiet { older ≡ false → (C.Counter.meaning counter.new).holders m ≡ (C.Counter.meaning counter.old).holders m }
-        ensures gained { slot_at self.old.slots m (first / 64 % 64) ≡ Vacant → holders self.new.slots m ≡ holders self.old.slots m + 1 }
+        ensures gained { slot_at self.old.slots m (pages.first / 64 % 64) ≡ Vacant → holders self.new.slots m ≡ holders self.old.slots m + 1 }
     {
-        let s = first / 64 % 64;
-        if self.whole(m, s, last - first, 64) {
+        let s = pages.first / 64 % 64;
+        let slot = self.at(m, s);
+        if slot.whole::<64>(pages) {
             self.put(m, s, e);
             tell(counter, older, core, m);
             return;
         }
-        match self.at(m, s) {
+        match slot {
             Slot::Vacant => {
                 let n = self.grow(m, s);
                 tell(counter, older, core, m);
-                counter.give(n, last - first);
-                self.fill_leaf(n, first, last, e);
+                counter.give(n, pages.len());
+                self.fill_leaf(n, pages, e);
             }
             Slot::Child(n) => {
-                self.fill_leaf(n, first, last, e);
-                revive_all(counter, core, n, last - first);
+                self.fill_leaf(n, pages, e);
+                revive_all(counter, core, n, pages.len());
             }
             Slot::Value(_) => unreachable(),
         }
@@ -114,118 +110,92 @@ impl Tree {
         core: Core,
         older: bool,
         m: NodeId,
-        first: Page,
-        last: Page,
+        pages: Pages,
         e: Mapping,
     )
         requires sound { Sound self.old }
         requires fits { Within e }
         requires node { m < 65 }
-        requires some { first < last }
-        requires small { last ≤ 262144 }
-        requires block { (last - 1) / 4096 ≡ first / 4096 }
-        requires path { slot_at self.old.slots 1 (first / 4096) ≡ Child m }
-        requires free { Free self.old first last }
-        requires room { need_mid self.old.slots m first last ≤ left self.old }
+        requires block { (pages.last - 1) / 4096 ≡ pages.first / 4096 }
+        requires path { slot_at self.old.slots 1 (pages.first / 4096) ≡ Child m }
+        requires free { Free self.old pages.first pages.last }
+        requires room { need_mid self.old.slots m pages.first pages.last ≤ left self.old }
         requires core { core < (C.Counter.meaning counter.old).cores }
         requires counted { CountedBut older m (C.Counter.meaning counter.old).holders self.old }
         requires idle { Idle (C.Counter.meaning counter.old).holders self.old }
-        ensures exact { self.new ≡ fill_middle m first last e self.old }
-        ensures told { Follows C.Counter.steps (told_middle older core m first last e self.old) counter.old counter.new }
-        ensures filled { Filled first last e self.old self.new }
-        ensures left { left self.new + need_mid self.old.slots m first last ≡ left self.old }
+        ensures exact { self.new ≡ fill_middle m pages.first pages.last e self.old }
+        ensures told { Follows C.Counter.steps (told_middle older core m pages.first pages.last e self.old) counter.old counter.new }
+        ensures filled { Filled pages.first pages.last e self.old self.new }
+        ensures left { left self.new + need_mid self.old.slots m pages.first pages.last ≡ left self.old }
         ensures others { Others (λ a t. ((link_at self.old.links a).level < 3) × (a ≢ m)) self.old self.new }
         ensures counted { CountedBut older m (C.Counter.meaning counter.new).holders self.new }
         ensures idle { Idle (C.Counter.meaning counter.new).holders self.new }
         ensures aside { Aside (C.Counter.meaning counter.old) (C.Counter.meaning counter.new) }
         ensures quiet { older ≡ false → (C.Counter.meaning counter.new).holders m ≡ (C.Counter.meaning counter.old).holders m }
-        ensures goes { Goes m first last last self.old self.new }
+        ensures goes { Goes m pages.first pages.last ((pages.last - 1) / 64 + 1) self.old self.new }
     {
-        let mut at = first;
-        while at < last {
-            let stop = block_end(at, last);
-            self.fill_block(counter, core, older, m, at, stop, e);
-            at = stop;
+        for block in pages.first_block::<64>()..pages.end_block::<64>() {
+            self.fill_block(counter, core, older, m, pages.in_block::<64>(block), e);
         }
     }
 
     // Fills pages under one slot of the root.
-    fn fill_top<C: Counter<Nodes>>(
-        &mut self,
-        counter: &mut C,
-        core: Core,
-        first: Page,
-        last: Page,
-        e: Mapping,
-    )
+    fn fill_top<C: Counter<Nodes>>(&mut self, counter: &mut C, core: Core, pages: Pages, e: Mapping)
         requires sound { Sound self.old }
         requires fits { Within e }
-        requires some { first < last }
-        requires small { last ≤ 262144 }
-        requires block { (last - 1) / 4096 ≡ first / 4096 }
-        requires free { Free self.old first last }
-        requires room { root_part self.old.slots (slot_at self.old.slots 1 (first / 4096)) first last ≤ left self.old }
+        requires block { (pages.last - 1) / 4096 ≡ pages.first / 4096 }
+        requires free { Free self.old pages.first pages.last }
+        requires room { root_part self.old.slots (slot_at self.old.slots 1 (pages.first / 4096)) pages.first pages.last ≤ left self.old }
         requires core { core < (C.Counter.meaning counter.old).cores }
         requires counted { Counted (C.Counter.meaning counter.old).holders self.old }
         requires idle { Idle (C.Counter.meaning counter.old).holders self.old }
-        ensures exact { self.new ≡ fill_top first last e self.old }
-        ensures told { Follows C.Counter.steps (told_top core first last e self.old) counter.old counter.new }
-        ensures filled { Filled first last e self.old self.new }
-        ensures left { left self.new + root_part self.old.slots (slot_at self.old.slots 1 (first / 4096)) first last ≡ left self.old }
-        ensures others { Others (Beside self.old (first / 4096)) self.old self.new }
+        ensures exact { self.new ≡ fill_top pages.first pages.last e self.old }
+        ensures told { Follows C.Counter.steps (told_top core pages.first pages.last e self.old) counter.old counter.new }
+        ensures filled { Filled pages.first pages.last e self.old self.new }
+        ensures left { left self.new + root_part self.old.slots (slot_at self.old.slots 1 (pages.first / 4096)) pages.first pages.last ≡ left self.old }
+        ensures others { Others (Beside self.old (pages.first / 4096)) self.old self.new }
         ensures counted { Counted (C.Counter.meaning counter.new).holders self.new }
         ensures idle { Idle (C.Counter.meaning counter.new).holders self.new }
         ensures aside { Aside (C.Counter.meaning counter.old) (C.Counter.meaning counter.new) }
     {
-        let s = first / 4096;
-        if self.whole(1, s, last - first, 4096) {
+        let s = pages.first / 4096;
+        let slot = self.at(1, s);
+        if slot.whole::<4096>(pages) {
             self.put(1, s, e);
             counter.revive(core, 1);
             return;
         }
-        match self.at(1, s) {
+        match slot {
             Slot::Vacant => {
                 let m = self.grow(1, s);
                 counter.revive(core, 1);
-                counter.give(m, (last - 1) / 64 + 1 - first / 64);
-                self.fill_middle(counter, core, false, m, first, last, e);
+                counter.give(m, pages.blocks_met::<64>());
+                self.fill_middle(counter, core, false, m, pages, e);
             }
             Slot::Child(m) => {
-                self.fill_middle(counter, core, true, m, first, last, e);
+                self.fill_middle(counter, core, true, m, pages, e);
             }
             Slot::Value(_) => unreachable(),
         }
     }
 
-    /// Every page from `first` and below `last`, all vacant, comes to be as e says, and the counter has the holders of every node.
-    pub fn fill<C: Counter<Nodes>>(
-        &mut self,
-        counter: &mut C,
-        core: Core,
-        first: Page,
-        last: Page,
-        e: Mapping,
-    )
+    /// Every page of the range, all vacant, comes to be as e says, and the counter has the holders of every node.
+    pub fn fill<C: Counter<Nodes>>(&mut self, counter: &mut C, core: Core, pages: Pages, e: Mapping)
         requires sound { Sound self.old }
         requires fits { Within e }
-        requires some { first < last }
-        requires small { last ≤ 262144 }
-        requires free { Free self.old first last }
-        requires room { need self.old.slots first last ≤ left self.old }
+        requires free { Free self.old pages.first pages.last }
+        requires room { need self.old.slots pages.first pages.last ≤ left self.old }
         requires core { core < (C.Counter.meaning counter.old).cores }
         requires tallied { Tallied (C.Counter.meaning counter.old) self.old }
-        ensures exact { self.new ≡ fill first last e self.old }
-        ensures told { Follows C.Counter.steps (told core first last e self.old) counter.old counter.new }
-        ensures filled { Filled first last e self.old self.new }
-        ensures left { left self.new + need self.old.slots first last ≡ left self.old }
+        ensures exact { self.new ≡ fill pages.first pages.last e self.old }
+        ensures told { Follows C.Counter.steps (told core pages.first pages.last e self.old) counter.old counter.new }
+        ensures filled { Filled pages.first pages.last e self.old self.new }
+        ensures left { left self.new + need self.old.slots pages.first pages.last ≡ left self.old }
         ensures tallied { Tallied (C.Counter.meaning counter.new) self.new }
         ensures aside { Aside (C.Counter.meaning counter.old) (C.Counter.meaning counter.new) }
     {
-        let mut at = first;
-        while at < last {
-            let stop = top_end(at, last);
-            self.fill_top(counter, core, at, stop, e);
-            at = stop;
+        for top in pages.first_block::<4096>()..pages.end_block::<4096>() {
+            self.fill_top(counter, core, pages.in_block::<4096>(top), e);
         }
     }
 }

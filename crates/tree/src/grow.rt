@@ -20,11 +20,7 @@ impl Tree {
     {
         let mut pool = Pool::full(nodes);
         let root = pool.draw().place();
-        let mut links = [Link {
-            level: 0,
-            parent: 0,
-            place: 0,
-        }; 65];
+        let mut links = [Link::default(); 65];
         links[root as usize] = Link {
             level: 1,
             parent: 0,
@@ -37,7 +33,7 @@ impl Tree {
         }
     }
 
-    /// Slot s of node n.
+    /// Slot s of node n. They stay two numbers: a walk would make a new pair at each step down, with the same bounds to show.
     pub(super) fn at(&self, n: NodeId, s: u32) -> Slot
         requires { (n < 65) × (s < 64) }
         ensures { result ≡ slot_at self.now.slots n s }

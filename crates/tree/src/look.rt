@@ -1,28 +1,11 @@
-ghost use Rattle.std.specs.Prelude.{◌≡◌, ℕ, ◌+◌, ◌-◌, ◌*◌, ◌/◌, ◌%◌, ◌<◌, ◌≤◌, Bool, true, false, Some};
+ghost use Rattle.std.specs.Prelude.{◌≡◌, ◌/◌, ◌%◌, ◌<◌};
 ghost use Rattle.model.specs.Pages.{Proper};
-ghost use Rattle.model.specs.Flat.{lowest};
-ghost use Rattle.tree.specs.Nodes.{slot_at, state_of, shows};
+ghost use Rattle.tree.specs.Nodes.{state_of, shows};
 ghost use Rattle.tree.specs.Soundness.{Sound};
-ghost use Rattle.tree.specs.Search.{fits, found_at, seen_in};
 
-use super::slot::{NodeId, Slot};
+use super::slot::Slot;
 use super::table::Tree;
-use model::page::{Mapping, Page, PageState};
-
-/// The state that a search looks for.
-#[derive(Clone, Copy)]
-pub enum Sought {
-    Mapped,
-    Closing,
-}
-
-/// What a search finds in a slot: a child to enter, or pages that all fit or all do not.
-#[derive(Clone, Copy)]
-pub(super) enum Seen {
-    Below(NodeId),
-    Fits,
-    Passes,
-}
+use model::page::{Page, PageState};
 
 impl Slot {
     /// What the slot says of the pages that it stands for.
@@ -32,17 +15,6 @@ impl Slot {
         match self {
             Slot::Value(mapping) => Some(mapping),
             Slot::Vacant | Slot::Child(_) => None,
-        }
-    }
-}
-
-impl Sought {
-    pub fn fits(self, mapping: Mapping) -> bool
-        ensures { result ≡ fits self (Some mapping) }
-    {
-        match self {
-            Sought::Mapped => mapping.is_mapped(),
-            Sought::Closing => mapping.is_closing(),
         }
     }
 }
@@ -64,32 +36,5 @@ impl Tree {
             return middle.state();
         };
         self.at(n, page % 64).state()
-    }
-
-    pub(super) fn seen(&self, n: NodeId, s: u32, sought: Sought) -> Seen
-        requires { (n < 65) × (s < 64) }
-        ensures { result ≡ seen_in sought (slot_at self.now.slots n s) }
-    {
-        match self.at(n, s) {
-            Slot::Vacant => Seen::Passes,
-            Slot::Child(k) => Seen::Below(k),
-            Slot::Value(mapping) => {
-                if sought.fits(mapping) {
-                    Seen::Fits
-                } else {
-                    Seen::Passes
-                }
-            }
-        }
-    }
-
-    /// Whether a slot of a leaf is in the state sought.
-    pub(super) fn holds(&self, n: NodeId, s: u32, sought: Sought) -> bool
-        requires { (n < 65) × (s < 64) }
-        ensures { result ≡ fits sought (state_of (slot_at self.now.slots n s)) }
-    {
-        self.at(n, s)
-            .state()
-            .is_some_and(|mapping| sought.fits(mapping))
     }
 }

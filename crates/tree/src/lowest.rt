@@ -1,39 +1,40 @@
-ghost use Rattle.std.specs.Prelude.{◌≡◌, ℕ, ◌+◌, ◌-◌, ◌*◌, ◌/◌, ◌%◌, ◌<◌, ◌≤◌};
+ghost use Rattle.std.specs.Prelude.{◌≡◌, ℕ, ◌+◌, ◌-◌, ◌*◌, ◌/◌, ◌%◌, ◌<◌, ◌≤◌, Bool};
+ghost use Rattle.model.specs.Pages.{PageState};
 ghost use Rattle.model.specs.Flat.{lowest};
 ghost use Rattle.tree.specs.Soundness.{Sound};
-ghost use Rattle.tree.specs.Search.{found_at};
+ghost use Rattle.tree.specs.Search.{Tells, found_at};
 
-use super::look::{Seen, Sought};
+use super::pages::Pages;
+use super::slot::Slot;
 use super::table::Tree;
-use model::page::Page;
+use model::page::{Mapping, Page};
 
 impl Tree {
-    /// The lowest page from `first` and below `last` in the state sought.
-    pub fn lowest(&self, first: Page, last: Page, sought: Sought) -> Option<Page>
+    /// The lowest page of the range that is in use and fits.
+    pub fn lowest<F: Fn(Mapping) -> bool>(&self, pages: Pages, fits: F) -> Option<Page>
         requires sound { Sound self.now }
-        requires some { first < last }
-        requires small { last ≤ 262144 }
-        ensures { result ≡ lowest (found_at sought self.now) first (last - first) }
+        requires calls { F.IsAlwaysCallable fits }
+        ensures { (test : PageState → Bool) → Tells (F.post fits) test → result ≡ lowest (found_at test self.now) pages.first (pages.last - pages.first) }
     {
         let found = 'walk: {
-            for top in first / 4096..(last - 1) / 4096 + 1 {
-                let start = first.max(top * 4096);
-                let stop = last.min(top * 4096 + 4096);
-                let middle = match self.seen(1, top, sought) {
-                    Seen::Passes => continue,
-                    Seen::Fits => break 'walk Some(start),
-                    Seen::Below(middle) => middle,
+            for top in pages.first_block::<4096>()..pages.end_block::<4096>() {
+                let under = pages.in_block::<4096>(top);
+                let middle = match self.at(1, top) {
+                    Slot::Vacant => continue,
+                    Slot::Value(mapping) if fits(mapping) => break 'walk Some(under.first),
+                    Slot::Value(_) => continue,
+                    Slot::Child(middle) => middle,
                 };
-                for block in start / 64..(stop - 1) / 64 + 1 {
-                    let from = start.max(block * 64);
-                    let to = stop.min(block * 64 + 64);
-                    let leaf = match self.seen(middle, block % 64, sought) {
-                        Seen::Passes => continue,
-                        Seen::Fits => break 'walk Some(from),
-                        Seen::Below(leaf) => leaf,
+                for block in under.first_block::<64>()..under.end_block::<64>() {
+                    let part = under.in_block::<64>(block);
+                    let leaf = match self.at(middle, block % 64) {
+                        Slot::Vacant => continue,
+                        Slot::Value(mapping) if fits(mapping) => break 'walk Some(part.first),
+                        Slot::Value(_) => continue,
+                        Slot::Child(leaf) => leaf,
                     };
-                    for page in from..to {
-                        if self.holds(leaf, page % 64, sought) {
+                    for page in part.first..part.last {
+                        if self.at(leaf, page % 64).state().is_some_and(&fits) {
                             break 'walk Some(page);
                         }
                     }

@@ -1,5 +1,6 @@
 use model::page::Mapping;
 
+/// A node's number. That it is one of the table's is a fact of the tree, which says it of every child: a type would say it twice.
 pub type NodeId = u16;
 
 /// What a slot of a node has. Above a leaf, a value stands for every page of its block.
@@ -10,9 +11,10 @@ pub enum Slot {
     Value(Mapping),
 }
 
-/// Where a node hangs: at slot `place` of its parent. The root has level 1, a leaf 3, a free node 0.
-#[derive(Clone, Copy)]
+/// Where a node hangs: at slot `place` of its parent.
+#[derive(Clone, Copy, Default)]
 pub struct Link {
+    /// The root has level 1, a leaf 3, a free node 0. A number, since a child's is its node's and one more.
     pub level: u8,
     pub parent: NodeId,
     pub place: u8,

@@ -8,6 +8,8 @@ use counter::counter::Counter;
 use counter::kind::Nodes;
 use model::page::Core;
 
+// The counter and its core stay two parameters: a struct that lent them would owe two clauses more everywhere, that it keeps both.
+
 // `times` slots gained by an older node.
 pub(super) fn revive_all<C: Counter<Nodes>>(counter: &mut C, core: Core, node: NodeId, times: u32)
     requires core { core < (C.Counter.meaning counter.old).cores }
@@ -18,12 +20,13 @@ pub(super) fn revive_all<C: Counter<Nodes>>(counter: &mut C, core: Core, node: N
     ensures aside { Aside (C.Counter.meaning counter.old) (C.Counter.meaning counter.new) }
     ensures told { Follows C.Counter.steps (revivals core node times) counter.old counter.new }
 {
-    for i in 0..times {
+    for _ in 0..times {
         counter.revive(core, node);
     }
 }
 
 // A slot gained by a node, of which the counter is told if the node is older.
+// The flag stays: the node is needed either way, so no Option holds it, and an enum of old and new would hold it twice.
 pub(super) fn tell<C: Counter<Nodes>>(counter: &mut C, older: bool, core: Core, node: NodeId)
     requires core { core < (C.Counter.meaning counter.old).cores }
     requires node { (1 ≤ node) × (node ≤ 64) }

@@ -4,8 +4,8 @@ use Rattle.tree.specs.Holders.{Changed, Aside, Follows}
 use Rattle.tree.specs.Fill.{revivals}
 use Rattle.tree.proofs.tell.revive_all.Given as goal
 
-abbrev pub invariant-loop-i : goal.invariant-loop-i
-invariant-loop-i g l =
-    Changed l.node (Some (how_many ((g.C.Counter.meaning l.initial.counter).holders l.node) + l.i)) (g.C.Counter.meaning l.initial.counter).holders (g.C.Counter.meaning l.counter).holders
-    × Aside (g.C.Counter.meaning l.initial.counter) (g.C.Counter.meaning l.counter)
-    × Follows g.C.Counter.steps (revivals l.core l.node l.i) l.initial.counter l.counter
+abbrev pub invariant-loop : goal.invariant-loop
+invariant-loop g l =
+    Changed l.node (Some (how_many ((g.C.Counter.meaning l.initial.counter-2).holders l.node) + l.counter)) (g.C.Counter.meaning l.initial.counter-2).holders (g.C.Counter.meaning l.counter-2).holders
+    × Aside (g.C.Counter.meaning l.initial.counter-2) (g.C.Counter.meaning l.counter-2)
+    × Follows g.C.Counter.steps (revivals l.core l.node l.counter) l.initial.counter-2 l.counter-2

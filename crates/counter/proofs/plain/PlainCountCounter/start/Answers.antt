@@ -1,7 +1,6 @@
 use Rattle.std.proofs.Common.{◌≡◌, ℕ, None, Option, ap, ◌∙◌}
 use Rattle.std.proofs.Math.Path.{fun_ext}
 use Rattle.counter.specs.Meaning.{with_holders, begun}
-use Rattle.counter.specs.Meanings.{none_not}
 use Rattle.counter.specs.ClocksLemmas.{started_means}
 use Rattle.counter.specs.Plain.{count_at, table_meaning, blank_table}
 use Rattle.counter.proofs.Lists.{get_d_replicate}
@@ -20,4 +19,4 @@ pub returns-clause-means : goal.returns-clause-means
 returns-clause-means g c = rw c.start.ensures (blank_means c.args.cores c.args.epoch)
 
 pub returns-clause-timely : goal.returns-clause-timely
-returns-clause-timely g c p o is z = absurd (none_not _ 0 (blank_free c.args.cores c.args.epoch o) z)
+returns-clause-timely g c p o is z = let free = blank_free c.args.cores c.args.epoch o in absurd cc

@@ -1,28 +1,19 @@
-use Rattle.std.proofs.Common.{arith}
 use Rattle.counter.specs.Meaning.Operation.{Fold}
 use Rattle.ledger.specs.View.{state}
 use Rattle.delta.specs.View.{tables}
 use Rattle.delta.specs.Keeps.{keeps_sound, keeps_meaning}
-use Rattle.delta.specs.Props.{open_sound}
 use Rattle.delta.proofs.counting.DeltaCacheCounter.fold.Goals as goal
-
-pub fold-requires : goal.fold-requires
-fold-requires g c =
-    let sound = open_sound (tables c.args.self.now) c.args.self.now.sound in
-    record { core = omega (arith, sound.ready.cores, c.requires.serves); ready = sound.ready }
 
 pub invariant_of-self : goal.invariant_of-self
 invariant_of-self g c =
     let st = tables c.args.self.now in
-    let sound = keeps_sound g.K.Kind.CAPACITY g.K.Kind.REVIVES st (state c.fold.new.self) (Fold c.args.core) g.K.Kind.small.1
-    c.requires.serves c.fold.ensures (open_sound st c.args.self.now.sound) in
-    record { sound = ∣ sound ∣₁ }
-
-pub returns : goal.returns
-returns g c =
-    let st = tables c.args.self.now in
     record {
-      means = keeps_meaning g.K.Kind.CAPACITY g.K.Kind.REVIVES st (state c.fold.new.self) (Fold c.args.core) g.K.Kind.small.1
-          c.requires.serves c.fold.ensures (open_sound st c.args.self.now.sound);
-      exact = c.fold.ensures;
+      sound = keeps_sound g.K.Kind.CAPACITY g.K.Kind.REVIVES st (state c.fold.new.self) (Fold c.args.core) g.K.Kind.small.1
+          c.requires.serves c.fold.ensures c.args.self.now.sound;
     }
+
+pub returns-clause-means : goal.returns-clause-means
+returns-clause-means g c =
+    let st = tables c.args.self.now in
+    keeps_meaning g.K.Kind.CAPACITY g.K.Kind.REVIVES st (state c.fold.new.self) (Fold c.args.core) g.K.Kind.small.1
+    c.requires.serves c.fold.ensures c.args.self.now.sound

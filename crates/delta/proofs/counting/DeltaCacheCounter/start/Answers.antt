@@ -1,22 +1,15 @@
-use Rattle.std.proofs.Common.{sym, ap, ◌∙◌, subst}
-use Rattle.ledger.specs.States.{State}
-use Rattle.delta.specs.Safety.{Sound, delta_meaning}
-use Rattle.delta.specs.Promptness.{OnTime}
+use Rattle.std.proofs.Common.{ap, ◌∙◌}
+use Rattle.delta.specs.Safety.{delta_meaning}
 use Rattle.delta.specs.Safe.{started_sound}
 use Rattle.delta.specs.Means.{started_is}
 use Rattle.delta.specs.Onward.{started_time}
 use Rattle.delta.proofs.counting.DeltaCacheCounter.start.Goals as goal
 
 pub invariant_of-result : goal.invariant_of-result
-invariant_of-result g c =
-    let sound = subst Sound (sym c.new.ensures) (started_sound c.args.cores c.args.epoch c.requires.few) in
-    record { sound = ∣ sound ∣₁ }
+invariant_of-result g c = record { sound = rw c.new.ensures (started_sound c.args.cores c.args.epoch c.requires.few) }
 
-pub returns : goal.returns
-returns g c =
-    let capacity = g.K.Kind.CAPACITY in
-    record {
-      means = ap delta_meaning c.new.ensures ∙ started_is c.args.cores c.args.epoch;
-      timely = λ p. subst (λ (st : State). OnTime capacity st p) (sym c.new.ensures) (started_time capacity c.args.cores c.args.epoch p);
-      exact = c.new.ensures;
-    }
+pub returns-clause-means : goal.returns-clause-means
+returns-clause-means g c = ap delta_meaning c.new.ensures ∙ started_is c.args.cores c.args.epoch
+
+pub returns-clause-timely : goal.returns-clause-timely
+returns-clause-timely g c p = rw c.new.ensures (started_time g.K.Kind.CAPACITY c.args.cores c.args.epoch p)

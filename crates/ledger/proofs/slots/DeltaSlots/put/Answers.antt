@@ -7,7 +7,7 @@ pub invariant_of-self : goal.invariant_of-self
 invariant_of-self c =
     let s = c.args.self.now in
     let new = Some c.args.delta in
-    let fits = c.requires.1.1 in
+    let fits = c.requires in
     record {
       within = each_set (λ k s. nat_abs (change_in s) ≤ 100) s.rows _ new None s.within fits.within;
       named = each_set (λ k s. is_some s ≡ true → 1 ≤ object_in s) s.rows _ new None s.named (λ e. fits.named);

@@ -1,23 +1,18 @@
-use Rattle.std.proofs.Common.{◌≡◌, ◌+◌, ◌-◌, ◌%◌, ◌<◌, ◌≤◌}
-use Rattle.tree.specs.Soundness.{left}
-use Rattle.tree.specs.Need.{need}
+use Rattle.std.proofs.Common.{◌≡◌, ◌-◌, ◌/◌}
 use Rattle.tree.specs.Holders.{Counted, Idle, Aside, Follows}
-use Rattle.tree.specs.Filled.{Filled}
-use Rattle.tree.specs.Fill.{blocks_met, fill_tops, told_tops}
+use Rattle.tree.specs.Fill.{walk, told_walk, fill_top, told_top}
+use Rattle.tree.proofs.Exact.{reached}
+use Rattle.tree.proofs.Tops.{Come}
 use Rattle.tree.proofs.table.Tree.fill.Given as goal
 
-abbrev pub invariant-loop-at : goal.invariant-loop-at
-invariant-loop-at g l =
-    (l.first ≤ l.at)
-    × (l.at ≤ l.last)
-    × Filled l.first l.at l.e l.initial.self l.self
-    × (left l.self + need l.initial.self.slots l.first l.last ≡ left l.initial.self + need l.self.slots l.at l.last)
-    × Counted (g.C.Counter.meaning l.counter).holders l.self
-    × Idle (g.C.Counter.meaning l.counter).holders l.self
-    × Aside (g.C.Counter.meaning l.initial.counter) (g.C.Counter.meaning l.counter)
-    × (l.self ≡ fill_tops l.first l.last l.e (blocks_met 4096 l.first l.at) l.initial.self)
-    × Follows g.C.Counter.steps (told_tops l.core l.first l.last l.e (blocks_met 4096 l.first l.at) l.initial.self) l.initial.counter l.counter
-    × (l.first < l.at → l.at < l.last → l.at % 4096 ≡ 0)
-
-abbrev pub decreases-loop-at : goal.decreases-loop-at
-decreases-loop-at g l = l.last - l.at
+abbrev pub invariant-loop-top : goal.invariant-loop-top
+invariant-loop-top g l = record {
+  tree : Come l.pages.first l.pages.last l.e l.initial.self (reached 4096 l.pages.first l.pages.last l.top) l.self;
+  exact : l.self ≡ walk 4096 (λ a z. fill_top a z l.e) l.pages.first l.pages.last (l.top - l.pages.first / 4096) l.initial.self;
+  told : Follows g.C.Counter.steps
+      (told_walk 4096 (λ a z. fill_top a z l.e) (λ a z. told_top l.core a z l.e) l.pages.first l.pages.last (l.top - l.pages.first / 4096) l.initial.self)
+      l.initial.counter l.counter;
+  counted : Counted (g.C.Counter.meaning l.counter).holders l.self;
+  idle : Idle (g.C.Counter.meaning l.counter).holders l.self;
+  aside : Aside (g.C.Counter.meaning l.initial.counter) (g.C.Counter.meaning l.counter);
+}

@@ -8,26 +8,26 @@ use Rattle.tree.proofs.Leaves.{leaf_again, leaf_left, leaf_others, leaf_gained}
 use Rattle.tree.proofs.table.Tree.fill_leaf.Goals as goal
 
 pub loop-page-init : goal.loop-page-init
-loop-page-init c = (filled_none _ _ _ c.requires.sound, refl, (λ a t _ _ _. refl), refl, refl, sym (leaf_start c.args.n c.args.first c.args.e c.args.self.now))
+loop-page-init c = (filled_none _ _ _ c.requires.sound, refl, (λ a t _ _ _. refl), refl, refl, sym (leaf_start c.args.n c.args.pages.first c.args.e c.args.self.now))
 
 pub loop-page-preserved : goal.loop-page-preserved
 loop-page-preserved c =
     let i = c.loop-page.invariant in (
-      leaf_again _ _ _ _ _ c.args.last c.loop-page.page _ c.requires.path c.requires.block (omega arith) (omega arith) c.requires.small c.requires.free i.0 c.put.ensures c.requires.fits,
-      leaf_left _ _ _ _ _ c.args.last c.loop-page.page _ c.requires.path c.requires.block (omega arith) (omega arith) c.requires.small c.requires.free i.0 c.put.ensures i.1,
-      leaf_others _ _ _ _ _ c.args.last c.loop-page.page _ c.requires.path c.requires.block (omega arith) (omega arith) c.requires.small c.requires.free i.0 c.put.ensures i.2,
+      leaf_again _ _ _ _ _ c.args.pages.last c.loop-page.page _ c.requires.path c.requires.block (omega arith) (omega arith) c.args.pages.small c.requires.free i.0 c.put.ensures c.requires.fits,
+      leaf_left _ _ _ _ _ c.args.pages.last c.loop-page.page _ c.requires.path c.requires.block (omega arith) (omega arith) c.args.pages.small c.requires.free i.0 c.put.ensures i.1,
+      leaf_others _ _ _ _ _ c.args.pages.last c.loop-page.page _ c.requires.path c.requires.block (omega arith) (omega arith) c.args.pages.small c.requires.free i.0 c.put.ensures i.2,
       ap (λ (u : Tree). u.links) c.put.ensures ∙ i.3,
-      omega (arith, i.4, leaf_gained _ _ _ _ _ c.args.last c.loop-page.page c.args.e c.requires.path c.requires.block (omega arith) (omega arith) c.requires.small c.requires.free i.0 c.put.ensures),
-      c.put.ensures ∙ leaf_to c.args.n c.args.first c.args.e c.args.self.now c.loop-page.page c.loop-page.self (omega arith) i.5,
+      omega (arith, i.4, leaf_gained _ _ _ _ _ c.args.pages.last c.loop-page.page c.args.e c.requires.path c.requires.block (omega arith) (omega arith) c.args.pages.small c.requires.free i.0 c.put.ensures),
+      c.put.ensures ∙ leaf_to c.args.n c.args.pages.first c.args.e c.args.self.now c.loop-page.page c.loop-page.self (omega arith) i.5,
     )
 
 pub returns : goal.returns
 returns c =
     let i = c.loop-page.invariant in
-    let end : c.loop-page.page ≡ c.args.last = omega arith in
+    let end : c.loop-page.page ≡ c.args.pages.last = omega arith in
     record {
-      exact = i.5 ∙ ap (λ (x : ℕ). fill_leaf c.args.n c.args.first c.args.e (x - c.args.first) c.args.self.now) end;
-      filled = subst (λ (x : ℕ). Filled c.args.first x c.args.e c.args.self.now c.loop-page.self) end i.0;
+      exact = i.5 ∙ ap (λ (x : ℕ). fill_leaf c.args.n c.args.pages.first c.args.e (x - c.args.pages.first) c.args.self.now) end;
+      filled = subst (λ (x : ℕ). Filled c.args.pages.first x c.args.e c.args.self.now c.loop-page.self) end i.0;
       left = i.1;
       others = i.2;
       links = i.3;

@@ -8,9 +8,9 @@ use Rattle.tree.proofs.table.Tree.fill_leaf.Given as goal
 
 abbrev pub invariant-loop-page : goal.invariant-loop-page
 invariant-loop-page l =
-    Filled l.first l.page l.e l.initial.self l.self
+    Filled l.fn.pages.first l.page l.e l.initial.self l.self
     × (left l.self ≡ left l.initial.self)
     × Others (λ a t. a ≡ l.n → ⊥) l.initial.self l.self
     × (l.self.links ≡ l.initial.self.links)
-    × (holders l.self.slots l.n + l.first ≡ holders l.initial.self.slots l.n + l.page)
-    × (l.self ≡ fill_leaf l.n l.first l.e (l.page - l.first) l.initial.self)
+    × (holders l.self.slots l.n + l.fn.pages.first ≡ holders l.initial.self.slots l.n + l.page)
+    × (l.self ≡ fill_leaf l.n l.fn.pages.first l.e (l.page - l.fn.pages.first) l.initial.self)

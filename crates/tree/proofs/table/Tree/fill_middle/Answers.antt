@@ -1,94 +1,72 @@
-use Rattle.std.proofs.Common.{◌≡◌, ℕ, ◌%◌, ◌<◌, List, sym, refl, ap, ◌∙◌, subst, arith}
-use Rattle.counter.specs.Meaning.{Operation}
-use Rattle.tree.specs.Holders.{Follows}
-use Rattle.tree.specs.Fill.{blocks_met, fill_blocks, told_blocks}
-use Rattle.tree.proofs.Counting.{aside_none, aside_then, follows_none, follows_then}
-use Rattle.tree.proofs.Exact.{turn_64, blocks_start, blocks_turn, told_blocks_start, told_blocks_turn}
-use Rattle.tree.specs.Filled.{Filled}
+use Rattle.std.proofs.Common.{◌≡◌, ℕ, ◌+◌, ◌-◌, ◌/◌, ◌<◌, sym, refl, ◌∙◌, subst, arith}
 use Rattle.tree.specs.Walks.{Goes}
-use Rattle.tree.proofs.Filling.{filled_none}
-use Rattle.tree.proofs.Needing.{need_none}
-use Rattle.tree.specs.Nodes.{slot_at}
-use Rattle.tree.proofs.Middles.{path_now, free_now, room_now, turn_filled, turn_count, turn_others, turn_goes, goes_first}
+use Rattle.tree.proofs.Counting.{aside_none, aside_then}
+use Rattle.tree.proofs.Exact.{turn, walk_start, walk_turn, walk_end, told_start, told_turn, told_end}
+use Rattle.tree.proofs.Middles.{under_first, under_last, under_left, goes_first, path_now, free_now, room_now, next_under, next_goes}
 use Rattle.tree.proofs.table.Tree.fill_middle.Goals as goal
 
-pub loop-at-init : goal.loop-at-init
-loop-at-init g c = (
-  omega arith,
-  omega arith,
-  filled_none _ _ _ c.requires.sound,
-  refl,
-  (λ a t _ _ _. refl),
-  c.requires.counted,
-  goes_first _ _ _ _,
-  (λ _. refl),
-  c.requires.idle,
-  aside_none _,
-  blocks_start c.args.m c.args.first c.args.last c.args.e c.args.self.now,
-  subst (λ (os : List Operation). Follows g.C.Counter.steps os c.args.counter.now c.args.counter.now)
-      (sym (told_blocks_start c.args.m c.args.first c.args.last c.args.e c.args.self.now c.args.older c.args.core)) (follows_none g.C.Counter.steps _),
-)
+pub loop-block-init : goal.loop-block-init
+loop-block-init g c =
+    let b = c.first_block-block.ensures in
+    record {
+      tree = under_first _ _ _ _ _ c.args.pages.some _ c.requires.sound b;
+      goes = goes_first _ _ _ c.args.e _ c.args.pages.some _ b;
+      exact = walk_start 64 _ _ _ _ _ b;
+      told = told_start 64 _ _ _ _ g.C.Counter.steps _ _ _ b;
+      counted = c.requires.counted;
+      idle = c.requires.idle;
+      aside = aside_none _;
+      quiet = λ _. refl;
+    }
 
 pub fill_block-requires : goal.fill_block-requires
 fill_block-requires g c =
-    let i = c.loop-at.invariant in
-    let to = c.loop-at-test.true in
-    let is = c.block_end-stop.ensures in
+    let i = c.loop-block.invariant in
+    let part = c.in_block.ensures in
     record {
-      sound = i.2.sound;
+      sound = i.tree.filled.sound;
       fits = c.requires.fits;
       node = c.requires.node;
-      some = omega arith;
-      small = omega arith;
-      block = omega arith;
-      path = path_now _ _ _ _ _ c.loop-at.at c.block_end-stop.result _ c.requires.small c.requires.block c.requires.path c.requires.free c.requires.room i.0 to is i.2 i.3;
-      free = free_now _ _ _ _ _ c.loop-at.at c.block_end-stop.result _ c.requires.small c.requires.block c.requires.path c.requires.free c.requires.room i.0 to is i.2 i.3;
-      room = room_now _ _ _ _ _ c.loop-at.at c.block_end-stop.result _ c.requires.small c.requires.block c.requires.path c.requires.free c.requires.room i.0 to is i.2 i.3;
-      core = subst (λ (x : ℕ). c.args.core < x) (sym i.9.cores) c.requires.core;
-      counted = i.5;
-      idle = i.8;
+      block = omega (arith, part);
+      path = path_now _ _ _ _ _ _ _ _ _ c.args.pages.small c.requires.block c.requires.path c.requires.free c.requires.room (omega arith) (omega arith) c.args.pages.some part.first part.last i.tree;
+      free = free_now _ _ _ _ _ _ _ _ _ c.args.pages.small c.requires.block c.requires.path c.requires.free c.requires.room (omega arith) (omega arith) c.args.pages.some part.first part.last i.tree;
+      room = room_now _ _ _ _ _ _ _ _ _ c.args.pages.small c.requires.block c.requires.path c.requires.free c.requires.room (omega arith) (omega arith) c.args.pages.some part.first part.last i.tree;
+      core = subst (λ (x : ℕ). c.args.core < x) (sym i.aside.cores) c.requires.core;
+      counted = i.counted;
+      idle = i.idle;
     }
 
-pub loop-at-preserved : goal.loop-at-preserved
-loop-at-preserved g c =
-    let i = c.loop-at.invariant in
-    let to = c.loop-at-test.true in
-    let is = c.block_end-stop.ensures in
+pub loop-block-preserved : goal.loop-block-preserved
+loop-block-preserved g c =
+    let i = c.loop-block.invariant in
+    let part = c.in_block.ensures in
     let b = c.fill_block.ensures in
-    let t = turn_64 c.args.first c.args.last c.loop-at.at c.block_end-stop.result i.0 to (λ lt. i.6.even lt to) is in (
-      omega arith,
-      omega arith,
-      turn_filled _ _ _ _ _ c.loop-at.at c.block_end-stop.result _ c.requires.small c.requires.block c.requires.path c.requires.free c.requires.room i.0 to is i.2 i.3 _ b.filled b.left b.others,
-      turn_count _ _ _ _ _ c.loop-at.at c.block_end-stop.result _ c.requires.small c.requires.block c.requires.path c.requires.free c.requires.room i.0 to is i.2 i.3 _ b.filled b.left b.others,
-      turn_others _ _ _ _ _ c.loop-at.at c.block_end-stop.result _ c.requires.small c.requires.block c.requires.path c.requires.free c.requires.room i.0 to is i.2 i.3 _ b.filled b.left b.others i.4,
-      b.counted,
-      turn_goes _ _ _ _ _ c.loop-at.at c.block_end-stop.result _ c.requires.small c.requires.block c.requires.path c.requires.free c.requires.room i.0 to is i.2 i.3 _ b.filled b.left b.others i.6 b.gained,
-      (λ o. b.quiet o ∙ i.7 o),
-      b.idle,
-      aside_then _ _ _ i.9 b.aside,
-      blocks_turn c.args.m c.args.first c.args.last c.args.e c.args.self.now c.loop-at.at c.block_end-stop.result c.loop-at.self c.fill_block.new.self t i.10 b.exact,
-      subst (λ (os : List Operation). Follows g.C.Counter.steps os c.args.counter.now c.fill_block.new.counter)
-          (sym (told_blocks_turn c.args.m c.args.first c.args.last c.args.e c.args.self.now c.args.older c.args.core c.loop-at.at c.block_end-stop.result c.loop-at.self t i.10))
-          (follows_then g.C.Counter.steps _ _ _ _ _ i.11 b.told),
-    )
-
-pub loop-at-smaller : goal.loop-at-smaller
-loop-at-smaller g c = let is = c.block_end-stop.ensures in omega arith
+    let t = turn 64 _ _ _ _ _ (omega arith) part.first part.last in
+    record {
+      tree = next_under _ _ _ _ _ _ _ _ _ c.args.pages.small c.requires.block c.requires.path c.requires.free c.requires.room (omega arith) (omega arith) c.args.pages.some part.first part.last i.tree _ b.filled b.left b.others;
+      goes = next_goes _ _ _ _ _ _ _ _ _ c.args.pages.small c.requires.block c.requires.path c.requires.free c.requires.room (omega arith) (omega arith) c.args.pages.some part.first part.last i.tree _ b.filled b.left b.others i.goes b.gained;
+      exact = walk_turn 64 _ _ _ _ _ _ _ _ _ t i.exact b.exact;
+      told = told_turn 64 _ _ _ _ g.C.Counter.steps _ _ _ _ _ _ _ _ t i.exact i.told b.told;
+      counted = b.counted;
+      idle = b.idle;
+      aside = aside_then _ _ _ i.aside b.aside;
+      quiet = λ o. b.quiet o ∙ i.quiet o;
+    }
 
 pub returns : goal.returns
 returns g c =
-    let i = c.loop-at.invariant in
-    let end : c.loop-at.at ≡ c.args.last = omega arith in
-    let z = need_none (λ x. slot_at c.loop-at.self.slots c.args.m (x % 64)) c.loop-at.at c.args.last (omega arith) in
+    let i = c.loop-block.invariant in
+    let end : c.loop-block.block ≡ (c.args.pages.last - 1) / 64 + 1 = omega arith in
+    let u = under_last _ _ _ _ _ c.args.pages.some _ _ end i.tree in
     record {
-      exact = i.10 ∙ ap (λ (x : ℕ). fill_blocks c.args.m c.args.first c.args.last c.args.e (blocks_met 64 c.args.first x) c.args.self.now) end;
-      told = subst (λ (x : ℕ). Follows g.C.Counter.steps (told_blocks c.args.older c.args.core c.args.m c.args.first c.args.last c.args.e (blocks_met 64 c.args.first x) c.args.self.now) c.args.counter.now c.loop-at.counter) end i.11;
-      filled = subst (λ (x : ℕ). Filled c.args.first x c.args.e c.args.self.now c.loop-at.self) end i.2;
-      left = omega (arith, i.3, z);
-      others = i.4;
-      counted = i.5;
-      idle = i.8;
-      aside = i.9;
-      quiet = i.7;
-      goes = subst (λ (x : ℕ). Goes c.args.m c.args.first c.args.last x c.args.self.now c.loop-at.self) end i.6;
+      exact = walk_end 64 _ _ _ _ _ _ c.args.pages.some end i.exact;
+      told = told_end 64 _ _ _ _ g.C.Counter.steps _ _ _ _ c.args.pages.some end i.told;
+      filled = u.filled;
+      left = under_left _ _ _ _ _ _ u;
+      others = u.others;
+      counted = i.counted;
+      idle = i.idle;
+      aside = i.aside;
+      quiet = i.quiet;
+      goes = subst (λ (b : ℕ). Goes c.args.m c.args.pages.first c.args.pages.last b c.args.self.now c.loop-block.self) end i.goes;
     }

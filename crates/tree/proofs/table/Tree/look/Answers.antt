@@ -1,7 +1,7 @@
 use Rattle.std.proofs.Common.{sym, ap, ◌∙◌, subst, arith}
 use Rattle.model.specs.Pages.{Proper}
 use Rattle.tree.specs.Nodes.{state_of}
-use Rattle.tree.proofs.Showing.{proper_shown, root_ends, middle_ends, leaf_ends, middle_small, leaf_small}
+use Rattle.tree.proofs.Showing.{proper_shown, root_ends, leaf_ends, middle_small, leaf_small}
 use Rattle.tree.proofs.table.Tree.look.Goals as goal
 
 pub at-middle-requires : goal.at-middle-requires
@@ -19,14 +19,6 @@ pub returns-in_default : goal.returns-in_default
 returns-in_default c =
     let is = c.state.ensures
     ∙ ap state_of (c.at-top.ensures ∙ sym (root_ends c.args.self.now.slots c.args.page (λ k e. c.in_default.not-Child k (c.at-top.ensures ∙ e)))) in
-    record { is = is; proper = subst Proper (sym is) (proper_shown _ _ c.requires.sound.linked c.args.page c.requires.small) }
-
-pub returns-in_default-middle : goal.returns-in_default-middle
-returns-in_default-middle c =
-    let is = c.state-in_default-middle.ensures
-    ∙ ap state_of (c.at-middle.ensures
-    ∙ sym (middle_ends c.args.self.now.slots c.args.page c.in-Child.m (sym c.in-Child.ensures)
-    (λ k e. c.in_default-middle.not-Child k (c.at-middle.ensures ∙ e)))) in
     record { is = is; proper = subst Proper (sym is) (proper_shown _ _ c.requires.sound.linked c.args.page c.requires.small) }
 
 pub returns : goal.returns

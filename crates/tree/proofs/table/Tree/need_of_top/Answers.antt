@@ -10,18 +10,16 @@ use Rattle.tree.proofs.table.Tree.need_of_top.Goals as goal
 
 pub need_of_middle-requires-in-Child : goal.need_of_middle-requires-in-Child
 need_of_middle-requires-in-Child c = record {
-  node = live_small _ c.requires.sound c.in-Child.m (omega (arith, c.requires.sound.linked.level 1 (c.args.first / 4096) c.in-Child.m (omega arith) (sym c.in-Child.ensures)));
-  some = c.requires.some;
-  small = c.requires.small;
+  node = live_small _ c.requires.sound c.in-Child.m (omega (arith, c.requires.sound.linked.level 1 (c.args.pages.first / 4096) c.in-Child.m (omega arith) (sym c.in-Child.ensures)));
 }
 
-pub returns-else-last-first-eq4096 : goal.returns-else-last-first-eq4096
-returns-else-last-first-eq4096 c =
-    let first = c.args.first in
-    let last = c.args.last in
+pub returns-else-len-eq4096 : goal.returns-else-len-eq4096
+returns-else-len-eq4096 c =
+    let first = c.args.pages.first in
+    let last = c.args.pages.last in
     let xs = c.args.self.now.slots in
     let a = ap (λ (x : Slot). root_part xs x first last) (sym c.in-Vacant.ensures) in
-    let b = cond-false (eqb (last - first) 4096) 0 (1 + need_by (λ _. Vacant) first last) (ne_eqb (last - first) 4096 c.if-last-first-eq4096.false) in
+    let b = cond-false (eqb (last - first) 4096) 0 (1 + need_by (λ _. Vacant) first last) (ne_eqb (last - first) 4096 (rw c.len.ensures at c.if-len-eq4096.false)) in
     let d = need_same (λ x. slot_at xs 0 (x % 64)) (λ _. Vacant) first last (λ x _ _ _. c.requires.sound.linked.free 0 (x % 64) (omega arith) c.requires.sound.linked.none) in
     let n = c.need_of_middle.ensures.is in
     record {

@@ -10,7 +10,7 @@ returns c =
     let start = c.full-pool.ensures in
     let k = c.place-root.ensures ∙ c.draw.ensures.number ∙ ap (λ (p : Pool 64). next_object p) start in
     let p = c.draw.ensures.after ∙ ap (λ (x : Pool 64). drawn x) start in
-    let is = planted_is c.args.nodes _ _ k p in
+    let is = planted_is c.args.nodes _ _ c.default-links.result k p c.default-links.ensures in
     record {
       exact = is;
       sound = subst Sound (sym is) (planted_sound c.args.nodes c.requires.0 c.requires.1);

@@ -1,7 +1,0 @@
-use Rattle.std.proofs.Common.{◌≡◌}
-use Rattle.ledger.specs.States.{fold_first}
-use Rattle.ledger.specs.View.{state}
-use Rattle.ledger.proofs.ledger.Ledger.fold_slots.Given as goal
-
-abbrev pub invariant-loop-index : goal.invariant-loop-index
-invariant-loop-index l = state l.self ≡ fold_first l.core l.index (state l.initial.self)

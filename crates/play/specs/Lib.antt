@@ -1,2 +1,0 @@
-pub mod Sights
-pub mod Counts

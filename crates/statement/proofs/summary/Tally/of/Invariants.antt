@@ -1,8 +1,0 @@
-use Rattle.std.proofs.Common.{◌≡◌, ◌+◌, take}
-use Rattle.statement.specs.Counts.{accepted_in}
-use Rattle.statement.proofs.summary.Tally.of.Given as goal
-
-abbrev pub invariant-loop-reply : goal.invariant-loop-reply
-invariant-loop-reply l =
-    (l.tally.accepted ≡ accepted_in (take l.reply-index l.replies))
-    × (l.tally.accepted + l.tally.refused ≡ l.reply-index)
