@@ -1,31 +1,22 @@
 -- The record of a call is sixteen bytes, and asks for that call.
-use Rattle.std.proofs.Common.{◌≡◌, ℕ, zero, suc, ◌/◌, ◌%◌, ◌<◌, List, [], ◌∷◌, ◌++◌, get_or, refl, mod-eq_of_lt, arith, lit<}
-use native.Mathlib.Nat.{div-div-eq-div-mul, div-add-mod}
+use Rattle.std.proofs.Common.{ℕ, zero, suc, List, [], ◌∷◌, ◌++◌, get_or, refl, arith, lit<}
+use Rattle.std.proofs.lemmas.Nat.{from_le_bytes-to_le_bytes_4}
 use Rattle.model.specs.declared.call.Call.TheVariants.{SetUp, Map, Touch, Share, Begin, Acknowledge, Finish, Flush, Look}
-use Rattle.script.specs.Numbers.{word, word_bytes}
-use Rattle.script.specs.RecordLaws.{laid_out, Byte, Word, RecordBytes, RoundTrip}
-
--- the bytes of a number make the number
-pub word_bytes_word : (n : ℕ) → Word n → word (word_bytes n) 0 ≡ n
-word_bytes_word n h =
-    let second : n / 256 / 256 ≡ n / 65536 = div-div-eq-div-mul n 256 256 in
-    let third : n / 65536 / 256 ≡ n / 16777216 = div-div-eq-div-mul n 65536 256 in
-    let top : n / 16777216 < 256 = omega arith in
-    let last : n / 16777216 % 256 ≡ n / 16777216 = mod-eq_of_lt top in
-    omega (arith, div-add-mod n 256, div-add-mod (n / 256) 256, div-add-mod (n / 65536) 256)
+use Rattle.script.specs.Numbers.{word_bytes}
+use Rattle.script.specs.RecordLaws.{laid_out, Byte, RecordBytes, RoundTrip}
 
 -- a list of bytes, one more at a time
 pub record Bytes (xs : List ℕ) : Type 0 where
   pub each : (i : ℕ) → Byte (get_or xs i 0)
 
-byte_nil : Bytes []
+pub byte_nil : Bytes []
 byte_nil = record { each = λ i. lit< tt }
 
 byte_at : (x : ℕ) (xs : List ℕ) → Byte x → Bytes xs → (i : ℕ) → Byte (get_or (x ∷ xs) i 0)
 byte_at x xs h rest zero = h
 byte_at x xs h rest (suc i) = rest.each i
 
-byte_cons : {x : ℕ} {xs : List ℕ} → Byte x → Bytes xs → Bytes (x ∷ xs)
+pub byte_cons : {x : ℕ} {xs : List ℕ} → Byte x → Bytes xs → Bytes (x ∷ xs)
 byte_cons {x} {xs} h rest = record { each = byte_at x xs h rest }
 
 byte_word : (n : ℕ) {xs : List ℕ} → Bytes xs → Bytes (word_bytes n ++ xs)
@@ -48,12 +39,12 @@ record_bytes_lem (Flush core) h = (refl, byte_layout 7 core 0 0 0 0 (lit< tt) h 
 record_bytes_lem (Look page) h = (refl, byte_layout 8 0 0 page 0 0 (lit< tt) (lit< tt) (lit< tt))
 
 pub round_trip : RoundTrip
-round_trip (SetUp cores frames nodes epoch) h = simp (word_bytes_word frames h.1, word_bytes_word nodes h.2, word_bytes_word epoch h.3)
-round_trip (Map core label first count) h = simp (word_bytes_word first h.2, word_bytes_word count h.3)
-round_trip (Touch core page) h = simp (word_bytes_word page h.1)
-round_trip (Share core source target) h = simp (word_bytes_word source h.1, word_bytes_word target h.2)
-round_trip (Begin core first count) h = simp (word_bytes_word first h.1, word_bytes_word count h.2)
-round_trip (Acknowledge core owner) h = simp (word_bytes_word owner h.1)
+round_trip (SetUp cores frames nodes epoch) h = simp (from_le_bytes-to_le_bytes_4 frames h.1, from_le_bytes-to_le_bytes_4 nodes h.2, from_le_bytes-to_le_bytes_4 epoch h.3)
+round_trip (Map core label first count) h = simp (from_le_bytes-to_le_bytes_4 first h.2, from_le_bytes-to_le_bytes_4 count h.3)
+round_trip (Touch core page) h = simp (from_le_bytes-to_le_bytes_4 page h.1)
+round_trip (Share core source target) h = simp (from_le_bytes-to_le_bytes_4 source h.1, from_le_bytes-to_le_bytes_4 target h.2)
+round_trip (Begin core first count) h = simp (from_le_bytes-to_le_bytes_4 first h.1, from_le_bytes-to_le_bytes_4 count h.2)
+round_trip (Acknowledge core owner) h = simp (from_le_bytes-to_le_bytes_4 owner h.1)
 round_trip (Finish core) h = refl
 round_trip (Flush core) h = refl
-round_trip (Look page) h = simp (word_bytes_word page h)
+round_trip (Look page) h = simp (from_le_bytes-to_le_bytes_4 page h)

@@ -6,7 +6,7 @@ use model::fault::Fault;
 use model::page::{Epoch, Page};
 
 /// What is answered to one record.
-#[derive(Clone, Copy)]
+#[derive(Clone, Copy, PartialEq, Eq, Debug)]
 pub struct Reply {
     /// The kind byte of the record, whether or not it is a kind.
     pub kind: u8,
@@ -28,6 +28,7 @@ struct Told {
 
 impl Reply {
     /// The reply's sixteen bytes.
+    #[tactic(auto, unfolding(crate::specs::Replies::reply_bytes))]
     pub fn to_bytes(self) -> [u8; RECORD]
         ensures value { result ≡ reply_bytes self }
         ensures full { length result ≡ 16 }

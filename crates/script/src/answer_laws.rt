@@ -2,6 +2,7 @@
 ghost use Rattle.script.specs.ReplyLaws.{ReplyLength};
 
 /// Every reply has sixteen bytes.
+#[tactic(auto, unfolding(crate::specs::Replies::reply_bytes))]
 pub fn reply_length()
     ensures { ReplyLength }
 {}

@@ -29,6 +29,7 @@ pub fn respond(memory: &mut Memory, call: Call) -> Result<u32, Fault>
             count,
         } => Ok(memory.map(core, label, first, count)?),
         Call::Look { page } => Ok(memory.look(page)?),
+        // Each by its name, so that a call more is not forgotten here.
         Call::Touch { .. }
         | Call::Share { .. }
         | Call::Begin { .. }
@@ -63,7 +64,6 @@ fn answer_record(memory: &mut Memory, bytes: &[u8; RECORD]) -> Reply
 }
 
 /// Plays a script of any bytes: one reply for each record, and one more for a rest of 1 to 15 bytes.
-#[tactic(auto, using(crate::proofs::Playings::scan_more))]
 pub fn play(heap: Global, memory: &mut Memory, script: &[u8]) -> Result<Vec<Reply>, AllocError>
     ensures replies { IfOk result (λ v. v.items ≡ replies script.now (memory_state memory.old)) }
     ensures state { OnOk result (memory_state memory.new ≡ state_at_end script.now (memory_state memory.old)) }
