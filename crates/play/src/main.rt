@@ -40,6 +40,7 @@ fn run(rt: &HostRuntime) -> Result<(), Failure> {
 }
 
 // Prints a statement on the standard output, or on the standard error if the answers have the standard output.
+// One `if` where the two streams part: a writer of either kind would be no plainer.
 fn print_statement(
     rt: &HostRuntime,
     statement: &Statement<'_>,

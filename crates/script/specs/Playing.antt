@@ -69,8 +69,8 @@ abbrev pub rest_reply : State → Reply
 rest_reply st = record { kind = 255; core = 0; outcome = Err BadRecord; epoch = st.epoch }
 
 -- the whole records of a script
-abbrev pub records_in : List ℕ → List (List ℕ)
-records_in script = first_chunks 16 (length script / 16) script
+abbrev pub whole_records : List ℕ → List (List ℕ)
+whole_records script = first_chunks 16 (length script / 16) script
 
 -- the state after records
 abbrev pub state_after : List (List ℕ) → State → State
@@ -82,7 +82,7 @@ replies_to records st = scan record_after reply_to st records
 
 -- the state after a script
 abbrev pub state_at_end : List ℕ → State → State
-state_at_end script st = state_after (records_in script) st
+state_at_end script st = state_after (whole_records script) st
 
 -- one more reply for a rest of 1 to 15 bytes
 abbrev pub rest_replies : List ℕ → State → List Reply
@@ -90,7 +90,7 @@ rest_replies script st = cond (length script % 16 == 0) [] (rest_reply (state_at
 
 -- all replies to a script
 abbrev pub replies : List ℕ → State → List Reply
-replies script st = replies_to (records_in script) st ++ rest_replies script st
+replies script st = replies_to (whole_records script) st ++ rest_replies script st
 
 -- their bytes
 abbrev pub all_bytes : List Reply → List ℕ

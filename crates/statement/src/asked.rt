@@ -3,11 +3,8 @@ ghost use Rattle.statement.specs.Told.{asked_by};
 
 use model::call::Call;
 use script::answer::Reply;
-use script::record::read;
+use script::record::{RECORD, read};
 use std::fmt;
-
-/// The bytes of a record.
-pub const RECORD: usize = 16;
 
 /// What the bytes of one record ask for.
 #[derive(Clone, Copy)]

@@ -1,7 +1,8 @@
-use super::asked::{Asked, RECORD};
+use super::asked::Asked;
 use super::outcome::Outcome;
 use super::summary::Summary;
 use script::answer::Reply;
+use script::record::RECORD;
 use std::fmt;
 
 /// What is told of a script that was played: a line for each record, if not brief, and the summary.
