@@ -5,7 +5,12 @@ use Rattle.bank.specs.declared.translation.Translation.{Translation}
 use Rattle.std.specs.List.{position, position_from}
 use Rattle.std.proofs.lemmas.Iterator.Adapters.{position_from-zero}
 use Rattle.std.proofs.lemmas.List.Quantifiers.{position-Some}
-use Rattle.bank.specs.ReloadEntries.{own, once, paged, has_page, Lacks, Rewritten, Taken, Vacated, Displaces}
+use Rattle.bank.specs.ReloadEntries.{own, once, paged, has_page, Rewritten, Taken, Vacated, Displaces}
+
+-- the slot has not the page
+abbrev pub Lacks : Option Translation → ℕ → Type 0
+Lacks None p = Unit {0}
+Lacks (Some e) p = e.page ≢ p
 
 none_from : (p i : ℕ) (es : List (Option Translation)) → position_from (has_page p) i es ≡ None → own es p ≡ None
 none_from p i [] h = refl
@@ -26,6 +31,7 @@ nowhere p es is = none_from p 0 es (sym (is ∙ position_from-zero (has_page p) 
 -- the slot at i, one of eight, has an entry of the page
 pub record Stands (p i : ℕ) (es : List (Option Translation)) : Type 0 where
   pub within : i < 8
+  pub has : has_page p (get_or es i None) ≡ true
   pub entry : Translation
   pub at : get_or es i None ≡ Some entry
   pub is : entry.page ≡ p
@@ -33,8 +39,8 @@ pub record Stands (p i : ℕ) (es : List (Option Translation)) : Type 0 where
 pub found : (p i : ℕ) (es : List (Option Translation)) → length es ≡ 8 → Some i ≡ position (has_page p) es → Stands p i es
 found p i es full is =
     let first = position-Some (has_page p) es i None (sym is) in
-    let has = has_entry p (get_or es i None) first.1 in
-    record { within = omega (arith, full, first.0); entry = has.0; at = has.1; is = has.2 }
+    let e = has_entry p (get_or es i None) first.1 in
+    record { within = omega (arith, full, first.0); has = first.1; entry = e.0; at = e.1; is = e.2 }
 
 -- an entry that stands is found
 pub held_own : (es : List (Option Translation)) (i : ℕ) (t : Translation) → once es ≡ true → get_or es i None ≡ Some t → own es t.page ≡ Some t.frame
@@ -166,7 +172,7 @@ displaces es i u single alone = displaces_by es i u (get_or es i None) single al
 
 -- its slot is written with x
 rewritten : {p i : ℕ} {es : List (Option Translation)} → Stands p i es → (x : Option Translation) → Rewritten p x es (set es i x)
-rewritten {p} {i} {es} s x = record { at = i; within = s.within; was = simp s.at s.is; writes = refl }
+rewritten {p} {i} {es} s x = record { at = i; within = s.within; was = s.has; writes = refl }
 
 -- a page that has an entry is replaced in place
 pub replaced : (u : Translation) {i : ℕ} {es : List (Option Translation)} → Stands u.page i es → (turn : ℕ) → once es ≡ true → Taken u None es (set es i (Some u)) turn turn

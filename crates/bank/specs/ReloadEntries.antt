@@ -24,21 +24,11 @@ abbrev pub has_page : ℕ → Option Translation → Bool
 has_page p None = false
 has_page p (Some e) = e.page == p
 
--- the slot has the page
-abbrev pub Has : Option Translation → ℕ → Type 0
-Has None p = ⊥
-Has (Some e) p = e.page ≡ p
-
--- the slot has not the page
-abbrev pub Lacks : Option Translation → ℕ → Type 0
-Lacks None p = Unit {0}
-Lacks (Some e) p = e.page ≢ p
-
 -- the slot of the page, one of eight, is written with x, and all others stay
 pub record Rewritten (p : ℕ) (x : Option Translation) (old new : List (Option Translation)) : Type 0 where
   pub at : ℕ
   pub within : at < 8
-  pub was : Has (slice_index_or old at None) p
+  pub was : has_page p (slice_index_or old at None) ≡ true
   pub writes : new ≡ slice_set old at x
 
 -- a page that has an entry gets its frame in place: the turn stays, and nothing is displaced

@@ -41,13 +41,15 @@ impl<B: Bank> Bank for ReloadBuffer<B> {
     }
 
     fn drop_page(&mut self, pair: Pair) {
-        self.own.vacate(pair);
+        self.own.vacate(pair.core, pair.page);
         // An older frame of the page may still be below.
         self.below.drop_page(pair);
     }
 
     fn show(&self, pair: Pair) -> Option<Frame> {
-        self.own.frame_of(pair).or_else(|| self.below.show(pair))
+        self.own
+            .frame_of(pair.core, pair.page)
+            .or_else(|| self.below.show(pair))
     }
 
     fn clear(&mut self) {

@@ -1,13 +1,14 @@
-ghost use Rattle.std.specs.Prelude.{◌≡◌, ℕ, Some, None};
+ghost use Rattle.std.specs.Prelude.{◌≡◌, ℕ, ◌<◌, Some, None};
 ghost use Rattle.bank.specs.Meaning.{Dropped, Empty};
 ghost use Rattle.bank.specs.ReloadRows.{held, Bare, Displaced, Took, Vacates};
 
 use super::pair::Pair;
 use super::reload_row::ReloadRow;
 use super::translation::Translation;
-use model::page::Frame;
+use model::page::{Core, Frame, Page};
 
 /// A row for each core.
+// Only a page that is taken in has to be one that there is: what tells or empties takes any, and so no pair.
 #[derive(Drop)]
 pub struct ReloadRows {
     rows: [ReloadRow; 16],
@@ -25,10 +26,11 @@ impl ReloadRows {
     }
 
     /// The frame that the core's own row has for the page.
-    pub fn frame_of(&self, pair: Pair) -> Option<Frame>
-        ensures { result ≡ held self.now.rows pair.core pair.page }
+    pub fn frame_of(&self, core: Core, page: Page) -> Option<Frame>
+        requires { core < 16 }
+        ensures { result ≡ held self.now.rows core page }
     {
-        self.rows[pair.core as usize].frame_of(pair.page)
+        self.rows[core as usize].frame_of(page)
     }
 
     /// Takes the page in at the core's row, and answers what it displaced.
@@ -45,10 +47,11 @@ impl ReloadRows {
     }
 
     /// Empties the entry with the page at the core's row, if there is one.
-    pub fn vacate(&mut self, pair: Pair)
-        ensures means { Dropped pair.core pair.page (held self.old.rows) (held self.new.rows) }
-        ensures exact { Vacates pair.core pair.page self.old.rows self.new.rows }
+    pub fn vacate(&mut self, core: Core, page: Page)
+        requires { core < 16 }
+        ensures means { Dropped core page (held self.old.rows) (held self.new.rows) }
+        ensures exact { Vacates core page self.old.rows self.new.rows }
     {
-        self.rows[pair.core as usize].vacate(pair.page);
+        self.rows[core as usize].vacate(page);
     }
 }
