@@ -1,5 +1,5 @@
 -- What operations make of a counter, one after another.
-use Rattle.std.proofs.Common.{◌≡◌, ℕ, suc, ◌+◌, Bool, true, false, eqb, List, [], ◌∷◌, ◌++◌, is_some, Some, None, Option, sym, refl, ap, ◌∙◌, subst, arith}
+use Rattle.std.proofs.Common.{◌≡◌, ℕ, suc, ◌+◌, true, eqb, List, [], ◌∷◌, ◌++◌, is_some, Some, None, Option, sym, refl, ap, ◌∙◌, subst, arith}
 use Rattle.std.proofs.lemmas.Bool.{eq-eqb, ne_eqb, cond-true, cond-false}
 use Rattle.counter.specs.Meaning.{Meaning, Operation, how_many, given, raised, put_at}
 use Rattle.counter.specs.Meaning.Operation.{Revive}
@@ -78,6 +78,3 @@ revivals_more core n k = let e : k + 1 ≡ suc k = omega arith in ap (revivals c
 pub revivals_none : (core n : ℕ) → revivals core n 0 ≡ []
 unfolding revivals
 revivals_none core n = refl
-
-pub both_ways : {b : Bool} → b ≡ true → b ≡ false → ⊥
-both_ways p q = let z : ◌≡◌ {A = ℕ} 0 1 = cc in omega arith

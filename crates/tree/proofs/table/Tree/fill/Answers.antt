@@ -1,4 +1,4 @@
-use Rattle.std.proofs.Common.{◌≡◌, ℕ, ◌+◌, ◌-◌, ◌/◌, ◌<◌, sym, subst, arith}
+use Rattle.std.proofs.Common.{◌≡◌, ◌+◌, ◌-◌, ◌/◌, arith}
 use Rattle.tree.proofs.Counting.{aside_none, aside_then}
 use Rattle.tree.proofs.Exact.{turn, walk_start, walk_turn, walk_end, told_start, told_turn, told_end}
 use Rattle.tree.proofs.Tops.{come_first, come_last, come_left, top_free, top_room, next_come}
@@ -16,19 +16,15 @@ loop-top-init g c =
       aside = aside_none _;
     }
 
-pub fill_top-requires : goal.fill_top-requires
-fill_top-requires g c =
-    let i = c.loop-top.invariant in
-    let part = c.in_block.ensures in
-    record {
-      fits = c.requires.fits;
-      block = omega (arith, part);
-      free = top_free _ _ _ _ _ _ _ _ c.args.pages.small c.requires.free c.requires.room (omega arith) (omega arith) c.args.pages.some part.first part.last i.tree;
-      room = top_room _ _ _ _ _ _ _ _ c.args.pages.small c.requires.free c.requires.room (omega arith) (omega arith) c.args.pages.some part.first part.last i.tree;
-      core = subst (λ (x : ℕ). c.args.core < x) (sym i.aside.cores) c.requires.core;
-      counted = i.counted;
-      idle = i.idle;
-    }
+pub fill_top-requires-clause-free : goal.fill_top-requires-clause-free
+fill_top-requires-clause-free g c =
+    top_free _ _ _ _ _ _ _ _ c.args.pages.small c.requires.free c.requires.room (omega arith) (omega arith) c.args.pages.some
+    c.in_block.ensures.first c.in_block.ensures.last c.loop-top.invariant.tree
+
+pub fill_top-requires-clause-room : goal.fill_top-requires-clause-room
+fill_top-requires-clause-room g c =
+    top_room _ _ _ _ _ _ _ _ c.args.pages.small c.requires.free c.requires.room (omega arith) (omega arith) c.args.pages.some
+    c.in_block.ensures.first c.in_block.ensures.last c.loop-top.invariant.tree
 
 pub loop-top-preserved : goal.loop-top-preserved
 loop-top-preserved g c =

@@ -1,4 +1,4 @@
-use Rattle.std.proofs.Common.{◌≡◌, ℕ, ◌+◌, ◌-◌, ◌/◌, ◌<◌, sym, refl, ◌∙◌, subst, arith}
+use Rattle.std.proofs.Common.{◌≡◌, ℕ, ◌+◌, ◌-◌, ◌/◌, refl, ◌∙◌, subst, arith}
 use Rattle.tree.specs.Walks.{Goes}
 use Rattle.tree.proofs.Counting.{aside_none, aside_then}
 use Rattle.tree.proofs.Exact.{turn, walk_start, walk_turn, walk_end, told_start, told_turn, told_end}
@@ -19,21 +19,20 @@ loop-block-init g c =
       quiet = λ _. refl;
     }
 
-pub fill_block-requires : goal.fill_block-requires
-fill_block-requires g c =
-    let i = c.loop-block.invariant in
-    let part = c.in_block.ensures in
-    record {
-      fits = c.requires.fits;
-      node = c.requires.node;
-      block = omega (arith, part);
-      path = path_now _ _ _ _ _ _ _ _ _ c.args.pages.small c.requires.block c.requires.path c.requires.free c.requires.room (omega arith) (omega arith) c.args.pages.some part.first part.last i.tree;
-      free = free_now _ _ _ _ _ _ _ _ _ c.args.pages.small c.requires.block c.requires.path c.requires.free c.requires.room (omega arith) (omega arith) c.args.pages.some part.first part.last i.tree;
-      room = room_now _ _ _ _ _ _ _ _ _ c.args.pages.small c.requires.block c.requires.path c.requires.free c.requires.room (omega arith) (omega arith) c.args.pages.some part.first part.last i.tree;
-      core = subst (λ (x : ℕ). c.args.core < x) (sym i.aside.cores) c.requires.core;
-      counted = i.counted;
-      idle = i.idle;
-    }
+pub fill_block-requires-clause-path : goal.fill_block-requires-clause-path
+fill_block-requires-clause-path g c =
+    path_now _ _ _ _ _ _ _ _ _ c.args.pages.small c.requires.block c.requires.path c.requires.free c.requires.room (omega arith) (omega arith) c.args.pages.some
+    c.in_block.ensures.first c.in_block.ensures.last c.loop-block.invariant.tree
+
+pub fill_block-requires-clause-free : goal.fill_block-requires-clause-free
+fill_block-requires-clause-free g c =
+    free_now _ _ _ _ _ _ _ _ _ c.args.pages.small c.requires.block c.requires.path c.requires.free c.requires.room (omega arith) (omega arith) c.args.pages.some
+    c.in_block.ensures.first c.in_block.ensures.last c.loop-block.invariant.tree
+
+pub fill_block-requires-clause-room : goal.fill_block-requires-clause-room
+fill_block-requires-clause-room g c =
+    room_now _ _ _ _ _ _ _ _ _ c.args.pages.small c.requires.block c.requires.path c.requires.free c.requires.room (omega arith) (omega arith) c.args.pages.some
+    c.in_block.ensures.first c.in_block.ensures.last c.loop-block.invariant.tree
 
 pub loop-block-preserved : goal.loop-block-preserved
 loop-block-preserved g c =
