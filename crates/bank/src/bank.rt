@@ -5,6 +5,7 @@ ghost use Rattle.bank.specs.Meaning.Operation.{Install, DropPage, Clear};
 use super::pair::Pair;
 use model::page::Frame;
 
+// A pair and its frame stay two: every other operation takes the pair alone.
 /// A bank of translations.
 pub trait Bank {
     // The frame that a core has for a page, if it has one.

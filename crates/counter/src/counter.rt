@@ -7,7 +7,7 @@ ghost use Rattle.counter.specs.Timeline.{Timeline, noted, InTurn, Prompt};
 use super::kind::Kind;
 
 /// Counts the holders of the objects of a kind. A call comes only where its conditions hold.
-// Core and object stay two numbers, each with its clause: every user of a counter is proved against these names.
+// Core and object stay two numbers: a type for an object of a kind would be made of its number at each call, with the same bounds to show.
 pub trait Counter<K: Kind>: Sized {
     ghost meaning: { Self → Meaning };
     // What exactly one operation makes of the counter; each implementation gives its own equation.

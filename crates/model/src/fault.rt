@@ -59,6 +59,7 @@ pub enum Fault {
     BadRecord,
 }
 
+// By hand: a derived `From` would not promise which fault a `?` makes, and contracts name it.
 impl From<PoolFault> for TreeFault {
     ghost from_gives = { λ e r. r ≡ Pool e };
 
@@ -102,6 +103,7 @@ impl Part {
 }
 
 impl Fault {
+    // 8, 9 and 15 stand here: a variant with values can have no number of its own.
     pub fn number(self) -> u8
         ensures { result ≡ number_of self }
     {

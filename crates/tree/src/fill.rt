@@ -29,6 +29,8 @@ impl Slot {
     }
 }
 
+// Two facts stay clauses of each: of the value, which is any mapping until it is in the tree, that it names cores and frames
+// that there are; and that the range is free, which is of tree and range together.
 impl Tree {
     // Fills pages of one leaf.
     fn fill_leaf(&mut self, n: NodeId, pages: Pages, e: Mapping)

@@ -3,6 +3,7 @@ ghost use Rattle.tree.specs.Pools.{next_object, drawn, full, unused, in_use, Rea
 
 use arrayvec::ArrayVec;
 
+// `Ready` is no invariant: a pool of any size can be made, and a bound in the type would ask one of `full`.
 /// A pool of objects numbered from 1 to `size`. It gives the object that was returned last, else the next new one.
 #[derive(Drop)]
 pub struct Pool<const N: usize> {
