@@ -5,8 +5,8 @@ ghost use Rattle.bank.specs.Meaning.Operation.{Install, DropPage, Clear};
 use super::pair::Pair;
 use model::page::Frame;
 
-// A pair and its frame stay two: every other operation takes the pair alone.
 /// A bank of translations.
+// A pair and its frame stay two: every other operation takes the pair alone.
 pub trait Bank {
     // The frame that a core has for a page, if it has one.
     ghost shows: { Self → ℕ → ℕ → Option ℕ };

@@ -8,7 +8,7 @@ use super::translation::Translation;
 use model::page::{Core, Frame, Page};
 
 /// A row for each core.
-// Only a page that is taken in has to be one that there is: what tells or empties takes any, and so no pair.
+// A pair would ask more of a caller of what tells or empties than these do: a page that there is.
 #[derive(Drop)]
 pub struct ReloadRows {
     rows: [ReloadRow; 16],

@@ -7,7 +7,7 @@ ghost use Rattle.counter.specs.Timeline.{Timeline, noted, InTurn, Prompt};
 use super::kind::Kind;
 
 /// Counts the holders of the objects of a kind. A call comes only where its conditions hold.
-// Core and object stay two numbers: a type for an object of a kind would be made of its number at each call, with the same bounds to show.
+// Core and object stay two numbers: the bound on an object is its kind's, and that a core serves is a fact of the counter, so no type has both.
 pub trait Counter<K: Kind>: Sized {
     ghost meaning: { Self → Meaning };
     // What exactly one operation makes of the counter; each implementation gives its own equation.

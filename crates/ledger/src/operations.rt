@@ -53,7 +53,7 @@ fn next_change(slot: Option<Delta>, way: Move) -> i8
     slot.map_or(0, |delta| delta.change) + way.step()
 }
 
-// `Ready` is asked of calls and is no invariant of the type: nothing here bounds the ups, as `delta` does.
+// `Ready` is asked of calls for one fact, that no object's total passes 65,536: an up can break it here, and only what `delta` knows keeps it.
 impl Ledger {
     /// Every object free, every slot empty.
     pub fn new(cores: u8, epoch: u32) -> Ledger
@@ -174,7 +174,7 @@ impl Ledger {
     }
 
     /// Whether the object is dead, as far as the core's list tells.
-    // No `Spot`: any core may ask, and of object 0 too.
+    // No `Spot`, which would ask more of a caller: a core that there is, and no object 0.
     pub fn judge(&mut self, core: Core, object: u16) -> bool
         requires object { object ≤ 1024 }
         ensures { StateSteps (state self.old) (Judge core object result) (state self.new) }

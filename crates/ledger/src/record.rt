@@ -15,7 +15,7 @@ pub struct Visit {
 pub struct Record {
     /// Its holders, as far as they were reported. It is negative where a loss was reported before its gain.
     pub shared: i32,
-    /// The core on whose review list it is.
+    /// The core on whose review list it is. What follows stays when it leaves the list, so that no Option holds them together.
     pub list: Option<Core>,
     /// The epoch in which it was listed.
     pub listed: u32,

@@ -34,7 +34,8 @@ impl DeltaSlots {
         ensures value { result ≡ slice_index_or self.now.rows row None }
         ensures within { unsigned_abs (change_in result) ≤ 100 }
     {
-        self.rows[row as usize]
+        let at = row as usize;
+        self.rows[at]
     }
 
     /// Puts a change into a slot, in the place of what it has.

@@ -103,7 +103,7 @@ impl Part {
 }
 
 impl Fault {
-    // 8, 9 and 15 stand here: a variant with values can have no number of its own.
+    // 8, 9 and 15 stand here: no variant of an enum with values can have a number of its own.
     pub fn number(self) -> u8
         ensures { result ≡ number_of self }
     {

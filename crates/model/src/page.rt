@@ -3,6 +3,7 @@ ghost use Rattle.model.specs.Pages.{fresh, closing_by, mapped_state, look_answer
 
 use super::cores::CoreSet;
 
+// Plain numbers: a call comes with any, and is turned down for those that there are not.
 pub type Page = u32;
 
 pub type Frame = u16;
@@ -36,7 +37,7 @@ impl Mapping {
             label,
             owner: None,
             frame: None,
-            cores: CoreSet { bits: 0 },
+            cores: CoreSet::empty(),
         }
     }
 

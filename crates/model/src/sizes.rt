@@ -1,4 +1,4 @@
-// Sizes of the machine, each with its one home here. specs/Sizes.antt has the same numbers for the contracts.
+// Sizes of the machine. specs/Sizes.antt has the same numbers for the contracts; tables have them, or one more, as their lengths.
 
 /// Pages are numbered from 0 and below this.
 pub const PAGES: u32 = 262_144;

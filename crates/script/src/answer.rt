@@ -71,6 +71,7 @@ impl From<Result<u32, Fault>> for Told {
     }
 }
 
+// Here, where the record is written, a place becomes a number, and nowhere before.
 /// A place as replies have it. No page has the number that stands for none.
 pub fn place_code(place: Option<Page>) -> u32
     ensures { result ≡ place_number place }

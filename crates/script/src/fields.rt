@@ -3,6 +3,7 @@ ghost use Rattle.script.specs.FieldUse.{used_by};
 
 use super::kind::Kind;
 
+// A row of the table, as the format has it: five answers of yes or no, and no set of names.
 /// Which fields of a record a kind uses. The others are 0 in a good record.
 #[derive(Clone, Copy, PartialEq, Eq, Debug)]
 pub struct Fields {

@@ -2,6 +2,7 @@ ghost use Rattle.script.specs.Kinds.{Decodes};
 
 use model::fault::Fault;
 
+// A call without its numbers: a record's kind is known before them.
 /// What a record asks for, with the number that its first byte has.
 #[derive(Clone, Copy, PartialEq, Eq, Debug)]
 pub enum Kind {
@@ -21,7 +22,7 @@ impl TryFrom<u8> for Kind {
 
     ghost try_from_gives = { Decodes };
 
-    // Nine bytes are the number of a kind.
+    // Nine bytes are the number of a kind. By hand: no derive turns a number back into a variant.
     fn try_from(byte: u8) -> Result<Kind, Fault> {
         match byte {
             0 => Ok(Kind::SetUp),

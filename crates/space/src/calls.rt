@@ -9,7 +9,7 @@ use super::space::Space;
 use model::fault::SpaceFault;
 use model::page::{Core, Epoch, Label, Page};
 
-// The numbers of a call stay apart, as its users have them: a struct of them would only repeat the call.
+// The numbers of a call and its answer stay plain, as the records have them: a struct would only repeat the call.
 impl Memory {
     /// A memory before set up: no cores, epoch 0, all pages vacant.
     pub fn new() -> Memory

@@ -26,7 +26,8 @@ fn rooted<N: Counter<Nodes>>(cores: u8, epoch: Epoch) -> N
 }
 
 impl<N: Counter<Nodes> + Drop> Space<N> {
-    // A space with all pages vacant, and pools that are full but for the root.
+    // A space with all pages vacant, and pools that are full but for the root. No type has its bounds:
+    // before set up there are no cores and no frames, which a set up may not ask for.
     fn begun(cores: u8, frames: u32, nodes: u32, epoch: Epoch) -> Space<N>
         requires cores { cores ≤ 16 }
         requires frames { frames ≤ 1024 }

@@ -1,4 +1,4 @@
-// The words for faults and parts.
+// The words for faults and parts. Texts and no `Display`: a contract names each, and an outcome is promised to the byte.
 ghost use Rattle.std.specs.Prelude.{◌≡◌};
 ghost use Rattle.statement.specs.Phrases.{reason_words, fault_words, part_words};
 

@@ -4,6 +4,7 @@ ghost use Rattle.statement.specs.Words.{sight_words};
 
 use std::fmt;
 
+// No mapping: it is read from the answer alone, which does not tell the core set.
 /// What an accepted look tells of a page.
 #[derive(Clone, Copy)]
 pub enum Sight {

@@ -29,8 +29,8 @@ impl Slot {
     }
 }
 
-// Two facts stay clauses of each: of the value, which is any mapping until it is in the tree, that it names cores and frames
-// that there are; and that the range is free, which is of tree and range together.
+// Two facts stay clauses of each: that the value names cores and frames that there are, since definitions make mappings freely
+// and a proof in the type would stand in each; and that the range is free, which is of tree and range together.
 impl Tree {
     // Fills pages of one leaf.
     fn fill_leaf(&mut self, n: NodeId, pages: Pages, e: Mapping)
@@ -141,7 +141,8 @@ impl Tree {
         }
     }
 
-    // Fills pages under one slot of the root. Not one with a block's: what a middle node gains is told as it is filled, a leaf's after.
+    // Fills pages under one slot of the root. Not one with a block's: what a middle node
+    // gains is told as it is filled, a leaf's after, and the order of what the counter is told is promised.
     fn fill_top<C: Counter<Nodes>>(&mut self, counter: &mut C, core: Core, pages: Pages, e: Mapping)
         requires fits { Within e }
         requires block { (pages.last - 1) / 4096 ≡ pages.first / 4096 }

@@ -12,6 +12,15 @@ use super::slot::{Link, NodeId, Slot};
 use super::table::Tree;
 use model::page::Mapping;
 
+// Where slot s of node n lies.
+fn row(n: NodeId, s: u32) -> usize
+    requires { (n < 65) × (s < 64) }
+    ensures is { result ≡ n * 64 + s }
+    ensures small { result < 4160 }
+{
+    n as usize * 64 + s as usize
+}
+
 impl Tree {
     /// A root with vacant slots, and as many nodes as `nodes` says, the root among them.
     pub fn new(nodes: usize) -> Tree
@@ -39,7 +48,7 @@ impl Tree {
         requires { (n < 65) × (s < 64) }
         ensures { result ≡ slot_at self.now.slots n s }
     {
-        self.slots[n as usize * 64 + s as usize]
+        self.slots[row(n, s)]
     }
 
     /// Slot s of node n comes to hold a value.
@@ -51,7 +60,7 @@ impl Tree {
         requires fits { Within e }
         ensures { self.new ≡ written n s (Value e) self.old }
     {
-        self.slots[n as usize * 64 + s as usize] = Slot::Value(e);
+        self.slots[row(n, s)] = Slot::Value(e);
     }
 
     /// A vacant slot above the leaves gets a child with vacant slots.
@@ -73,7 +82,7 @@ impl Tree {
             parent: n,
             place: s as u8,
         };
-        self.slots[n as usize * 64 + s as usize] = Slot::Child(k);
+        self.slots[row(n, s)] = Slot::Child(k);
         k
     }
 }

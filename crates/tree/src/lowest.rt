@@ -10,6 +10,7 @@ use super::table::Tree;
 use model::page::{Mapping, Page};
 
 impl Tree {
+    // Both levels have their match in one nested walk, left by a label: the form that is wanted here.
     /// The lowest page of the range that is in use and fits.
     pub fn lowest<F: Fn(Mapping) -> bool>(&self, pages: Pages, fits: F) -> Option<Page>
         requires calls { F.IsAlwaysCallable fits }

@@ -40,7 +40,7 @@ impl Tree {
     }
 
     // The children that a fill under a middle node draws: only the first and the last block can be met in part.
-    // Node 0 stands for one with vacant slots.
+    // Node 0 stands for one with vacant slots, and no Option does: the same look reads it.
     fn need_of_middle(&self, m: NodeId, pages: Pages) -> usize
         requires node { m < 65 }
         ensures is { result ≡ need_mid self.now.slots m pages.first pages.last }

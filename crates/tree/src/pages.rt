@@ -12,7 +12,7 @@ pub struct Pages {
     pub ghost small: { last ≤ 262144 },
 }
 
-// The size of a block is a const parameter, so that the division by it is a shift. That it is above 0 each function asks, since a const parameter has no type that could say it.
+// The size of a block is a const parameter, so that the division by it is a shift. That it is above 0 each function asks: a trait that says it once would need a type for each of two sizes.
 impl Pages {
     ghost use Rattle.tree.specs.declared.pages.Pages.{Pages};
     ghost use Rattle.tree.specs.Need.{at_ends};

@@ -14,7 +14,7 @@ pub enum Slot {
 /// Where a node hangs: at slot `place` of its parent.
 #[derive(Clone, Copy, Default)]
 pub struct Link {
-    /// The root has level 1, a leaf 3, a free node 0. A number, since a child's is its node's and one more.
+    /// The root has level 1, a leaf 3, a free node 0. A number, and of a free node no None: a child's is its node's and one more, with nothing to test.
     pub level: u8,
     pub parent: NodeId,
     pub place: u8,

@@ -8,9 +8,9 @@ use std::marker::Model;
 // The links upward stand apart: in one array of nodes, each slot that is written would owe that all links stay.
 #[derive(Drop)]
 pub struct Tree {
-    pub(super) slots: [Slot; 4160],
-    pub(super) links: [Link; 65],
-    pub(super) pool: Pool<64>,
+    pub slots: [Slot; 4160],
+    pub links: [Link; 65],
+    pub pool: Pool<64>,
 }
 
 impl Model for Tree {

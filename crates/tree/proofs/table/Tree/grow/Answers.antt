@@ -11,7 +11,7 @@ invariant_of-self c =
     let k = c.place-k.ensures ∙ c.draw.ensures.number in
     let is = grown_is t c.args.n c.args.s _ _ k c.draw.ensures.after in
     let r = c.requires in
-    (grown_hung t c.args.self.now _ c.args.n c.args.s _ c.self.view_is c.self.invariant k is r.some r.node r.place r.live r.above r.vacant).sound
+    rw c.row.ensures.is (grown_hung t c.args.self.now _ c.args.n c.args.s _ c.self.view_is c.self.invariant k is r.some r.node r.place r.live r.above r.vacant).sound
 
 pub returns : goal.returns
 returns c =
@@ -21,6 +21,6 @@ returns c =
     let r = c.requires in
     record {
       child = k ∙ ap (λ (u : Shape). next_object u.pool) c.self.view_is;
-      exact = is ∙ ap (grown c.args.n c.args.s) c.self.view_is;
-      hung = grown_hung t c.args.self.now _ c.args.n c.args.s _ c.self.view_is c.self.invariant k is r.some r.node r.place r.live r.above r.vacant;
+      exact = rw c.row.ensures.is (is ∙ ap (grown c.args.n c.args.s) c.self.view_is);
+      hung = rw c.row.ensures.is (grown_hung t c.args.self.now _ c.args.n c.args.s _ c.self.view_is c.self.invariant k is r.some r.node r.place r.live r.above r.vacant);
     }

@@ -11,4 +11,4 @@ invariant_of-self c =
     let t : Shape = record { slots = c.self.inside.slots; links = c.self.inside.links; pool = c.self.inside.pool } in
     let live = subst (λ (u : Shape). 0 < (link_at u.links c.args.n).level) (sym c.self.view_is) c.requires.live in
     let was = subst (λ (u : Shape). slot_at u.slots c.args.n c.args.s ≡ Vacant) (sym c.self.view_is) c.requires.vacant in
-    put_sound t (written c.args.n c.args.s (Value c.args.e) t) c.self.invariant c.args.n c.args.s c.args.e refl c.requires.place live was c.requires.fits
+    rw c.row.ensures.is (put_sound t (written c.args.n c.args.s (Value c.args.e) t) c.self.invariant c.args.n c.args.s c.args.e refl c.requires.place live was c.requires.fits)
