@@ -17,7 +17,7 @@ pub struct Reply {
     pub epoch: Epoch,
 }
 
-// An outcome in numbers.
+// An outcome in numbers, as the format of an answer has them: 0 is promised where there is none, so no Option.
 #[derive(Clone, Copy)]
 struct Told {
     number: u8,

@@ -10,6 +10,7 @@ use model::fault::SpaceFault;
 use model::page::{Core, Epoch, Label, Page};
 
 // The numbers of a call and its answer stay plain, as the records have them: a struct would only repeat the call.
+// Each call passes on to the space, and has a contract that names no counter.
 impl Memory {
     /// A memory before set up: no cores, epoch 0, all pages vacant.
     pub fn new() -> Memory

@@ -10,7 +10,7 @@ use model::fault::SpaceFault;
 use model::page::{Core, Label, Mapping, Page};
 
 impl<N: Counter<Nodes> + Drop> Space<N> {
-    /// Maps the pages of a range with a label, no frame and an empty core set.
+    /// Maps the pages of a range with a label, no frame and an empty core set. Answer: 0, the number that a record is answered.
     pub fn map(
         &mut self,
         core: Core,

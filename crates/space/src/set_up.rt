@@ -51,7 +51,7 @@ impl<N: Counter<Nodes> + Drop> Space<N> {
         Space::begun(0, 0, 1, 0)
     }
 
-    /// Begins anew with 1 to 16 cores, 1 to 1,024 frames, 1 to 64 nodes and a starting epoch.
+    /// Begins anew with 1 to 16 cores, 1 to 1,024 frames, 1 to 64 nodes and a starting epoch. Answer: 0, as of a map.
     pub fn set_up(
         &mut self,
         cores: u8,

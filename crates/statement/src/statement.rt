@@ -11,6 +11,7 @@ pub struct Statement<'a> {
     pub script: &'a [u8],
     pub replies: &'a [Reply],
     pub summary: &'a Summary,
+    /// Plain yes or no: no value goes with it.
     pub brief: bool,
 }
 

@@ -52,7 +52,7 @@ impl Tree {
         }
     }
 
-    // Fills pages of one block of the middle node m, and tells the counter; of m itself only if it is older.
+    // Fills pages of one block of the middle node m, and tells the counter; of m itself only if it is older, by a flag as for `tell`.
     fn fill_block<C: Counter<Nodes>>(
         &mut self,
         counter: &mut C,
@@ -105,7 +105,7 @@ impl Tree {
         }
     }
 
-    // Fills pages under the middle node m.
+    // Fills pages under the middle node m. Not one with `fill`: under this there are blocks, under that whole middle nodes.
     fn fill_middle<C: Counter<Nodes>>(
         &mut self,
         counter: &mut C,

@@ -4,6 +4,7 @@ use std::marker::Model;
 
 /// The radix tree. Slot s of node n is at n × 64 + s; nodes are numbered from 1, and node 0 is none.
 /// Every tree is sound: links, slots and pool agree whenever a call begins or ends.
+// Nodes go by number in a fixed table: a rule of the project, 64 nodes and no heap on a call.
 // The slots are flat: the borrow check has no rule yet for a struct with an array of arrays of them.
 // The links upward stand apart: in one array of nodes, each slot that is written would owe that all links stay.
 #[derive(Drop)]
