@@ -28,6 +28,28 @@ pub struct Mapping {
 /// The state of one page: what it has in use, or nothing where it is vacant.
 pub type PageState = Option<Mapping>;
 
+/// Whether a core is unmapping a page.
+pub fn is_closing(state: PageState) -> bool
+    ensures { result ≡ closing_by state }
+{
+    state.is_some_and(|mapping| mapping.is_closing())
+}
+
+/// Whether a page is in use and no core is unmapping it.
+pub fn is_mapped(state: PageState) -> bool
+    ensures { result ≡ mapped_state state }
+{
+    state.is_some_and(|mapping| mapping.is_mapped())
+}
+
+/// What a look answers of a page in any state, 0 of a vacant one.
+pub fn answer(state: PageState) -> u32
+    requires { Proper state }
+    ensures { result ≡ look_answer state }
+{
+    state.map_or(0, |mapping| mapping.answer())
+}
+
 impl Mapping {
     /// Mapped with a label, no frame and an empty core set.
     pub fn fresh(label: Label) -> Mapping

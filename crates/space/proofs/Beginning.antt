@@ -35,7 +35,7 @@ begins cores frames nodes epoch m few hf h1 h2 e = record {
   cores = ap (λ (x : Meaning). x.cores) e;
   epoch = ap (λ (x : Meaning). x.epoch) e;
   few = few;
-  frames = record { few = hf; small = omega arith; past = omega arith; less = omega arith };
+  frames = record { few = hf; small = omega arith; past = omega arith; fit = omega arith; less = omega arith };
 }
 
 pub all_blank : (cores frames nodes epoch q : ℕ) → flat (set_up_state cores frames nodes epoch) q ≡ all_vacant q

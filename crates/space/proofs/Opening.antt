@@ -24,6 +24,7 @@ ready_prop a b = λ i. record {
   few = le_prop a.few b.few i;
   small = le_prop a.small b.small i;
   past = le_prop a.past b.past i;
+  fit = le_prop a.fit b.fit i;
   less = le_prop a.less b.less i;
 }
 

@@ -7,7 +7,7 @@ use super::space::Space;
 use counter::counter::Counter;
 use counter::kind::Nodes;
 use model::fault::SpaceFault;
-use model::page::Page;
+use model::page::{Page, answer};
 
 impl<N: Counter<Nodes> + Drop> Space<N> {
     /// What is told of a page: label + 256 × frame + 16,777,216 × (owner + 1).
@@ -15,6 +15,6 @@ impl<N: Counter<Nodes> + Drop> Space<N> {
         ensures { result ≡ look_answer_of page (state self.now) }
     {
         check_page(page)?;
-        Ok(self.tree.look(page).map_or(0, |mapping| mapping.answer()))
+        Ok(answer(self.tree.look(page)))
     }
 }

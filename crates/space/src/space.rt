@@ -15,5 +15,5 @@ pub struct Space<N: Counter<Nodes>> {
     pub frames: Pool<1024>,
     pub tree: Tree,
     pub nodes: N,
-    ghost sound: { Linked cores epoch frames tree (N.meaning nodes) },
+    pub ghost sound: { Linked cores epoch frames tree (N.meaning nodes) },
 }

@@ -1,9 +1,5 @@
 -- A tree stays sound.
-use Rattle.std.proofs.Common.{◌≡◌, ℕ, ◌+◌, ◌-◌, ◌*◌, ◌<◌, ◌≤◌, ltb, ◌≢◌, ◌⊎◌, List, length, get_or, take, set, sym, ap, ◌∙◌, subst, inl, inr, ⊎_elim, arith, length-set, length-take-le, get_or-take, get_or-set_other, get_or-set_same}
-use Rattle.std.specs.List.{All}
-use Rattle.std.proofs.lemmas.List.{get_or_default, get_or_past}
-use Rattle.std.proofs.lemmas.Option.{unwrap_or-slice_get}
-use Rattle.std.proofs.lemmas.List.Elements.{All-take}
+use Rattle.std.proofs.Common.{◌≡◌, ℕ, ◌+◌, ◌-◌, ◌*◌, ◌<◌, ◌≤◌, true, false, ltb, ◌⊎◌, List, get_or, set, sym, ap, ◌∙◌, subst, inl, inr, ⊎_elim, arith, length-set, get_or-set_other, get_or-set_same}
 use Rattle.std.proofs.lemmas.Bool.{cases_eq, cases_lt, lt-ltb, le-ltb, cond-true, cond-false}
 use Rattle.model.specs.declared.page.Mapping.{Mapping}
 use Rattle.tree.specs.declared.slot.Slot.{Slot}
@@ -12,7 +8,7 @@ use Rattle.tree.specs.declared.slot.Link.{Link}
 use Rattle.tree.specs.Nodes.{slot_at, link_at, no_link}
 use Rattle.model.specs.Pages.{Within}
 use Rattle.tree.specs.declared.pool.Pool.{Pool}
-use Rattle.tree.specs.Pools.{waiting, next_object, drawn, unused}
+use Rattle.tree.specs.Pools.{next_object, drawn, unused}
 use Rattle.tree.specs.Soundness.{Linked, Pooled}
 use Rattle.tree.specs.Walks.{Gives}
 use Rattle.tree.proofs.Places.{put_same, put_other, put_cases}
@@ -154,80 +150,70 @@ module _ (xs : List Slot) (links : List Link) (ok : Linked xs links) (n s k : �
 
 -- a node out of the pool may get a level
 pub pool_kept : (links : List Link) (p : Pool 64) (k : ℕ) (w : Link) → Pooled links p →
-    k < p.next → All (λ n. n ≢ k) p.returned.items → Pooled (set links k w) p
+    k < p.next → ((i : ℕ) → i < p.count → get_or p.returned i 0 ≡ k → ⊥) → Pooled (set links k w) p
 pool_kept links p k w ok under out = record {
+  long = ok.long;
   few = ok.few;
   past = ok.past;
   second = ok.second;
   fit = ok.fit;
   fresh = λ n h. ap (λ (u : Link). u.level) (get_or-set_other links k n w no_link (λ e. omega (arith, e))) ∙ ok.fresh n h;
-  idle = λ i d h. ap (λ (u : Link). u.level) (get_or-set_other links k (get_or p.returned.items i d) w no_link (out i d h)) ∙ ok.idle i d h;
+  idle = λ i h. ap (λ (u : Link). u.level) (get_or-set_other links k (get_or p.returned i 0) w no_link (out i h)) ∙ ok.idle i h;
   known = ok.known;
   some = ok.some;
   apart = ok.apart;
 }
 
--- a pool gives a free node: the one returned last, which then waits no longer
-gives_returned : (links : List Link) (p : Pool 64) → Pooled links p → 0 < waiting p → Gives links p
-gives_returned links p ok h =
-    let xs = p.returned.items in
-    let m = waiting p - 1 in
-    let next : (drawn p).next ≡ p.next = cond-true (ltb 0 (waiting p)) p.next (p.next + 1) (lt-ltb 0 (waiting p) h) in
-    let is : next_object p ≡ get_or xs m p.next = unwrap_or-slice_get xs m p.next in
-    let in_it : m < length xs = omega arith in
-    let short : length (take m xs) ≡ m = length-take-le m xs (omega arith) in
-    let known = ok.known m p.next in_it in
+-- a pool gives a free node
+pub pool_gives : (links : List Link) (p : Pool 64) → Pooled links p → 0 < unused p → Gives links p
+pool_gives links p ok some = ⊎_elim
+    (λ (h : 0 < p.count).
+    let b : ltb 0 p.count ≡ true = lt-ltb 0 p.count h in
+    let is : next_object p ≡ get_or p.returned (p.count - 1) 0 = cond-true (ltb 0 p.count) _ _ b in
+    let next : (drawn p).next ≡ p.next = cond-true (ltb 0 p.count) p.next (p.next + 1) b in
+    let in_it : p.count - 1 < p.count = omega arith in
     record {
-      some = omega (arith, is, ok.some m p.next in_it);
-      small = omega (arith, is, known, ok.past, ok.few);
-      idle = ap (λ (i : ℕ). (link_at links i).level) is ∙ ok.idle m p.next in_it;
-      left = omega (arith, next, short, h);
+      some = omega (arith, is, ok.some (p.count - 1) in_it);
+      small = omega (arith, is, ok.known (p.count - 1) in_it, ok.past, ok.few);
+      idle = ap (λ (i : ℕ). (link_at links i).level) is ∙ ok.idle (p.count - 1) in_it;
+      left = omega (arith, next, h);
       pooled = record {
+        long = ok.long;
         few = ok.few;
         past = omega (arith, next, ok.past);
         second = omega (arith, next, ok.second);
-        fit = omega (arith, next, short, ok.fit, h);
+        fit = omega (arith, next, ok.fit, h);
         fresh = λ n hn. ok.fresh n (omega (arith, next, hn));
-        idle = All-take (λ (n : ℕ). (link_at links n).level ≡ 0) m xs ok.idle;
-        known = All-take (λ (n : ℕ). n < (drawn p).next) m xs (subst (λ (n : ℕ). All (λ (x : ℕ). x < n) xs) (sym next) ok.known);
-        some = All-take (λ (n : ℕ). 0 < n) m xs ok.some;
-        apart = λ i j d hi hj e. ok.apart i j d hi (omega (arith, short, hj))
-            (sym (get_or-take m xs i d (omega (arith, short, hi, hj))) ∙ e ∙ get_or-take m xs j d (omega (arith, short, hj)));
+        idle = λ i hi. ok.idle i (omega arith);
+        known = λ i hi. omega (arith, next, ok.known i (omega arith));
+        some = λ i hi. ok.some i (omega arith);
+        apart = λ i j hi hj. ok.apart i j hi (omega arith);
       };
-      under = omega (arith, is, next, known);
-      out = λ i d hi e. ok.apart i m p.next (omega (arith, short, hi)) in_it
-          (get_or_default xs i p.next d (omega (arith, short, hi)) ∙ sym (get_or-take m xs i d (omega (arith, short, hi))) ∙ e ∙ is);
-    }
-
--- or the next new one, where none waits
-gives_new : (links : List Link) (p : Pool 64) → Pooled links p → waiting p ≡ 0 → 0 < unused p → Gives links p
-gives_new links p ok none some =
-    let xs = p.returned.items in
-    let next : (drawn p).next ≡ p.next + 1 = cond-false (ltb 0 (waiting p)) p.next (p.next + 1) (le-ltb 0 (waiting p) (omega arith)) in
-    let is : next_object p ≡ p.next = unwrap_or-slice_get xs (waiting p - 1) p.next ∙ get_or_past xs (waiting p - 1) p.next (omega arith) in
-    let short : length (take (waiting p - 1) xs) ≡ waiting p - 1 = length-take-le (waiting p - 1) xs (omega arith) in
+      under = omega (arith, is, next, ok.known (p.count - 1) in_it);
+      out = λ i hi e. ok.apart i (p.count - 1) hi in_it (e ∙ is);
+    })
+    (λ (h : p.count ≤ 0).
+    let b : ltb 0 p.count ≡ false = le-ltb 0 p.count h in
+    let is : next_object p ≡ p.next = cond-false (ltb 0 p.count) (get_or p.returned (p.count - 1) 0) p.next b in
+    let next : (drawn p).next ≡ p.next + 1 = cond-false (ltb 0 p.count) p.next (p.next + 1) b in
     record {
       some = omega (arith, is, ok.second);
-      small = omega (arith, is, ok.few, some, none);
+      small = omega (arith, is, ok.few, some, h);
       idle = ap (λ (i : ℕ). (link_at links i).level) is ∙ ok.fresh p.next (omega arith);
-      left = omega (arith, next, short, some, none);
+      left = omega (arith, next, some, h);
       pooled = record {
+        long = ok.long;
         few = ok.few;
-        past = omega (arith, next, some, none);
+        past = omega (arith, next, some, h);
         second = omega (arith, next, ok.second);
-        fit = omega (arith, next, short, none, ok.second);
+        fit = omega (arith, next, ok.fit);
         fresh = λ n hn. ok.fresh n (omega (arith, next, hn));
-        idle = λ i _ hi. absurd (omega (arith, short, hi, none));
-        known = λ i _ hi. absurd (omega (arith, short, hi, none));
-        some = λ i _ hi. absurd (omega (arith, short, hi, none));
-        apart = λ i j _ hi hj. absurd (omega (arith, short, hj, none));
+        idle = λ i hi. absurd (omega (arith, hi, h));
+        known = λ i hi. absurd (omega (arith, hi, h));
+        some = λ i hi. absurd (omega (arith, hi, h));
+        apart = λ i j hi hj. absurd (omega (arith, hj, h));
       };
       under = omega (arith, is, next);
-      out = λ i _ hi. absurd (omega (arith, short, hi, none));
-    }
-
-pub pool_gives : (links : List Link) (p : Pool 64) → Pooled links p → 0 < unused p → Gives links p
-pool_gives links p ok some = ⊎_elim
-    (λ (h : 0 < waiting p). gives_returned links p ok h)
-    (λ (h : waiting p ≤ 0). gives_new links p ok (omega (arith, h)) some)
-    (cases_lt 0 (waiting p))
+      out = λ i hi e. absurd (omega (arith, hi, h));
+    })
+    (cases_lt 0 p.count)

@@ -80,15 +80,16 @@ linked_prop a b = λ i. record {
 
 pooled_prop : {links : List Link} {p : Pool 64} → IsProp (Pooled links p)
 pooled_prop a b = λ i. record {
+  long = ℕ_set _ _ a.long b.long i;
   few = le_prop a.few b.few i;
   past = le_prop a.past b.past i;
   second = le_prop a.second b.second i;
   fit = le_prop a.fit b.fit i;
   fresh = Π_prop (λ n. Π_prop (λ h. ℕ_set _ _)) a.fresh b.fresh i;
-  idle = Π_prop (λ n. Π_prop (λ d. Π_prop (λ h. ℕ_set _ _))) a.idle b.idle i;
-  known = Π_prop (λ n. Π_prop (λ d. Π_prop (λ h. le_prop))) a.known b.known i;
-  some = Π_prop (λ n. Π_prop (λ d. Π_prop (λ h. le_prop))) a.some b.some i;
-  apart = Π_prop (λ x. Π_prop (λ y. Π_prop (λ d. Π_prop (λ h. Π_prop (λ g. Π_prop (λ e. ⊥_prop)))))) a.apart b.apart i;
+  idle = Π_prop (λ n. Π_prop (λ h. ℕ_set _ _)) a.idle b.idle i;
+  known = Π_prop (λ n. Π_prop (λ h. le_prop)) a.known b.known i;
+  some = Π_prop (λ n. Π_prop (λ h. le_prop)) a.some b.some i;
+  apart = Π_prop (λ x. Π_prop (λ y. Π_prop (λ h. Π_prop (λ g. Π_prop (λ e. ⊥_prop))))) a.apart b.apart i;
 }
 
 pub sound_prop : {t : Tree} → IsProp (Sound t)

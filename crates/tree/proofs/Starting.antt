@@ -1,5 +1,5 @@
 -- A new tree is sound.
-use Rattle.std.proofs.Common.{◌≡◌, ℕ, zero, suc, ◌+◌, ◌*◌, ◌/◌, ◌%◌, ◌<◌, ◌≤◌, get_or, set, replicate, refl, ap, ◌∙◌, ⊎_elim, arith, length-set, get_or-set_other, get_or-set_same}
+use Rattle.std.proofs.Common.{◌≡◌, ℕ, zero, suc, ◌+◌, ◌*◌, ◌/◌, ◌%◌, ◌<◌, ◌≤◌, length, get_or, set, replicate, refl, ap, ◌∙◌, ⊎_elim, arith, length-set, get_or-set_other, get_or-set_same}
 use lib.ListN.{length-replicate}
 use Rattle.std.proofs.lemmas.Bool.{cases_eq}
 use Rattle.tree.specs.declared.slot.Slot.{Slot}
@@ -8,7 +8,7 @@ use Rattle.tree.specs.declared.slot.Link.{Link}
 use Rattle.tree.specs.Nodes.{slot_at, link_at, no_link, down, slot_of}
 use Rattle.model.specs.declared.page.Mapping.{Mapping}
 use Rattle.tree.specs.declared.pool.Pool.{Pool}
-use Rattle.tree.specs.Pools.{full, waiting, next_object, drawn}
+use Rattle.tree.specs.Pools.{full, next_object, drawn}
 use Rattle.tree.specs.Soundness.{Linked, Pooled, Sound}
 use Rattle.tree.specs.declared.table.Tree.{Tree}
 use Rattle.tree.specs.Changes.{rooted, planted}
@@ -52,17 +52,18 @@ module _ (w n : ℕ) (r : Link) where
         values = λ m t v _ p. absurd (no_value v (vacant m t) p);
       }
 
-  pub new_pooled : (p : Pool 64) → waiting p ≡ 0 → p.next ≡ 2 → 0 < p.size → p.size ≤ 64 → Pooled (set (replicate n no_link) 1 r) p
-  new_pooled p none two h1 h2 = record {
+  pub new_pooled : (p : Pool 64) → length p.returned ≡ 64 → p.count ≡ 0 → p.next ≡ 2 → 0 < p.size → p.size ≤ 64 → Pooled (set (replicate n no_link) 1 r) p
+  new_pooled p long none two h1 h2 = record {
+    long = long;
     few = h2;
     past = omega arith;
     second = omega arith;
     fit = omega arith;
     fresh = λ m h. ap (λ (u : Link). u.level) (one_root m (λ e. omega (arith, e, h, two)));
-    idle = λ i _ h. absurd (omega (arith, h, none));
-    known = λ i _ h. absurd (omega (arith, h, none));
-    some = λ i _ h. absurd (omega (arith, h, none));
-    apart = λ i j _ _ h. absurd (omega (arith, h, none));
+    idle = λ i h. absurd (omega (arith, h, none));
+    known = λ i h. absurd (omega (arith, h, none));
+    some = λ i h. absurd (omega (arith, h, none));
+    apart = λ i j _ h. absurd (omega (arith, h, none));
   }
 
 pub new_blank : (w q : ℕ) → slot_of (replicate w Vacant) q ≡ Vacant
@@ -71,7 +72,7 @@ new_blank w q = ap (λ (u : Slot). down (replicate w Vacant) (down (replicate w 
 pub planted_sound : (nodes : ℕ) → 0 < nodes → nodes ≤ 64 → Sound (planted nodes)
 planted_sound nodes h1 h2 = record {
   linked = new_linked 4160 65 (record { level = 1; parent = 0; place = 0 }) refl refl refl;
-  pooled = new_pooled 4160 65 (record { level = 1; parent = 0; place = 0 }) (drawn (full 64 nodes)) refl refl h1 h2;
+  pooled = new_pooled 4160 65 (record { level = 1; parent = 0; place = 0 }) (drawn (full 64 nodes)) refl refl refl h1 h2;
 }
 
 -- the links of free nodes are made as defaults

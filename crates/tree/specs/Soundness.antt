@@ -1,6 +1,5 @@
 -- When a tree is sound.
-use Rattle.std.specs.Prelude.{◌≡◌, ℕ, ◌+◌, ◌<◌, ◌≤◌, List, length, ◌≢◌}
-use Rattle.std.specs.List.{All, AllPairs}
+use Rattle.std.specs.Prelude.{◌≡◌, ℕ, ◌+◌, ◌<◌, ◌≤◌, List, length, ◌≢◌, slice_index}
 use Rattle.tree.specs.declared.slot.Slot.{Slot}
 use Rattle.tree.specs.declared.slot.Slot.TheVariants.{Vacant, Child, Value}
 use Rattle.tree.specs.declared.slot.Link.{Link}
@@ -8,7 +7,7 @@ use Rattle.tree.specs.Shape.{Shape}
 use Rattle.model.specs.declared.page.Mapping.{Mapping}
 use Rattle.model.specs.Pages.{Within}
 use Rattle.tree.specs.declared.pool.Pool.{Pool}
-use Rattle.tree.specs.Pools.{waiting, unused}
+use Rattle.tree.specs.Pools.{unused}
 use Rattle.tree.specs.Nodes.{slot_at, link_at}
 
 -- children hang where their links say, one level below; free nodes are vacant; values name cores and frames that there are
@@ -27,15 +26,16 @@ pub record Linked (slots : List Slot) (links : List Link) : Type 0 where
 
 -- what the pool has is free, once each
 pub record Pooled (links : List Link) (p : Pool 64) : Type 0 where
+  pub long : length p.returned ≡ 64
   pub few : p.size ≤ 64
   pub past : p.next ≤ p.size + 1
   pub second : 1 < p.next
-  pub fit : waiting p + 2 ≤ p.next
+  pub fit : p.count + 2 ≤ p.next
   pub fresh : (n : ℕ) → p.next ≤ n → (link_at links n).level ≡ 0
-  pub idle : All (λ n. (link_at links n).level ≡ 0) p.returned.items
-  pub known : All (λ n. n < p.next) p.returned.items
-  pub some : All (λ n. 0 < n) p.returned.items
-  pub apart : AllPairs (λ m n. m ≢ n) p.returned.items
+  pub idle : (i : ℕ) → i < p.count → (link_at links (slice_index p.returned i)).level ≡ 0
+  pub known : (i : ℕ) → i < p.count → slice_index p.returned i < p.next
+  pub some : (i : ℕ) → i < p.count → 0 < slice_index p.returned i
+  pub apart : (i j : ℕ) → i < j → j < p.count → slice_index p.returned i ≢ slice_index p.returned j
 
 -- a tree whose links and pool are in order
 pub record Sound (t : Shape) : Type 0 where

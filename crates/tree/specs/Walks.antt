@@ -1,6 +1,5 @@
 -- What the steps of a walk promise one another. A reader of the calls needs none of it.
-use Rattle.std.specs.Prelude.{◌≡◌, ℕ, ◌+◌, ◌-◌, ◌*◌, ◌/◌, ◌%◌, ◌<◌, ◌≤◌, List, ◌≢◌, slice_set}
-use Rattle.std.specs.List.{All}
+use Rattle.std.specs.Prelude.{◌≡◌, ℕ, ◌+◌, ◌-◌, ◌*◌, ◌/◌, ◌%◌, ◌<◌, ◌≤◌, List, ◌≢◌, slice_index, slice_set}
 use Rattle.model.specs.declared.page.Mapping.{Mapping}
 use Rattle.tree.specs.declared.slot.Slot.TheVariants.{Vacant, Child, Value}
 use Rattle.tree.specs.declared.slot.Link.{Link}
@@ -29,7 +28,7 @@ pub record Gives (links : List Link) (p : Pool 64) : Type 0 where
   pub left : unused (drawn p) + 1 ≡ unused p
   pub pooled : Pooled links (drawn p)
   pub under : next_object p < (drawn p).next
-  pub out : All (λ n. n ≢ next_object p) (drawn p).returned.items
+  pub out : (i : ℕ) → i < (drawn p).count → slice_index p.returned i ≢ next_object p
 
 -- a free node k with vacant slots hangs from the slot s of n, which was vacant
 pub record Hung (n s k : ℕ) (old new : Tree) : Type 0 where

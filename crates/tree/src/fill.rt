@@ -32,7 +32,8 @@ impl Slot {
 // Two facts stay clauses of each: that the value names cores and frames that there are, since definitions make mappings freely
 // and a proof in the type would stand in each; and that the range is free, which is of tree and range together.
 impl Tree {
-    // Fills pages of one leaf.
+    // Fills pages of one leaf. Not inlined: the walk over blocks would bear the numbers of its loop at each block.
+    #[inline(never)]
     fn fill_leaf(&mut self, n: NodeId, pages: Pages, e: Mapping)
         requires fits { Within e }
         requires node { n < 65 }

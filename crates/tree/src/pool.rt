@@ -1,14 +1,14 @@
 ghost use Rattle.std.specs.Prelude.{◌≡◌, ℕ, ◌+◌, ◌-◌, ◌<◌, ◌≤◌};
 ghost use Rattle.tree.specs.Pools.{next_object, drawn, full, unused, in_use, Ready};
 
-use arrayvec::ArrayVec;
-
 // `Ready` is no invariant: a pool of any size can be made, and a bound in the type would ask one of `full`.
+// The count stands beside the array: an `ArrayVec` is not `Copy`, which a pool is, and so a tree.
 /// A pool of objects numbered from 1 to `size`. It gives the object that was returned last, else the next new one.
-#[derive(Drop)]
+#[derive(Clone, Copy)]
 pub struct Pool<const N: usize> {
-    /// The objects that came back and wait, the last of them first to go.
-    pub returned: ArrayVec<u16, N>,
+    /// The objects that came back and wait, the last of them at `count - 1`.
+    pub returned: [u16; N],
+    pub count: usize,
     /// The next new object.
     pub next: usize,
     pub size: usize,
@@ -35,7 +35,8 @@ impl<const N: usize> Pool<N> {
         ensures { result ≡ full N size }
     {
         Pool {
-            returned: ArrayVec::new(),
+            returned: [0; N],
+            count: 0,
             next: 1,
             size,
         }
@@ -46,7 +47,7 @@ impl<const N: usize> Pool<N> {
         requires { Ready N self.now }
         ensures { result ≡ unused self.now }
     {
-        self.returned.len() + (self.size + 1 - self.next)
+        self.count + (self.size + 1 - self.next)
     }
 
     /// How many objects are out.
@@ -64,8 +65,11 @@ impl<const N: usize> Pool<N> {
         ensures number { result.number ≡ next_object self.old }
         ensures after { self.new ≡ drawn self.old }
     {
-        if let Some(number) = self.returned.pop() {
-            return Drawn { number };
+        if self.count > 0 {
+            self.count -= 1;
+            return Drawn {
+                number: self.returned[self.count],
+            };
         }
         let number = self.next as u16;
         self.next += 1;

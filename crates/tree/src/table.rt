@@ -7,7 +7,7 @@ use std::marker::Model;
 // Nodes go by number in a fixed table: a rule of the project, 64 nodes and no heap on a call.
 // The slots are flat: the borrow check has no rule yet for a struct with an array of arrays of them.
 // The links upward stand apart: in one array of nodes, each slot that is written would owe that all links stay.
-#[derive(Drop)]
+#[derive(Clone, Copy)]
 pub struct Tree {
     pub slots: [Slot; 4160],
     pub links: [Link; 65],
@@ -22,6 +22,8 @@ impl Model for Tree {
     ghost use Rattle.tree.specs.Soundness.{Sound};
 
     ghost view = { λ t. record { slots = t.slots; links = t.links; pool = t.pool } };
+
+    ghost inverse = { λ v. record { slots = v.slots; links = v.links; pool = v.pool } };
 
     ghost invariant = { λ t. Sound (record { slots = t.slots; links = t.links; pool = t.pool }) };
 }
